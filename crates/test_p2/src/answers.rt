@@ -2,7 +2,7 @@
 use bitflags::Flags;
 use std::alloc::Global;
 use std::fmt::Debug;
-use test_support::{Told, number, told, word};
+use test_support::{Rendered, number, rendered, word};
 use wasi_p2_calls::types::{NewTimestamp, WallDatetime};
 use wasi_p2_calls::{FsResult, PreopenEntry, ReadResult};
 use wasi_streams::Resource;
@@ -41,22 +41,22 @@ pub fn time(text: &str) -> NewTimestamp {
 }
 
 /// What is answered, or the refusal.
-pub fn shown<T: Debug + Drop>(alloc: Global, answer: FsResult<T>) -> Told {
+pub fn shown<T: Debug + Drop>(alloc: Global, answer: FsResult<T>) -> Rendered {
     match answer {
-        Ok(value) => told(alloc, &value),
-        Err(error) => told(alloc, &error),
+        Ok(value) => rendered(alloc, &value),
+        Err(error) => rendered(alloc, &error),
     }
 }
 
 /// The number of a resource that is answered, as later words name it.
-pub fn kept(alloc: Global, given: &mut Vec<Resource>, answer: FsResult<Resource>) -> Told {
+pub fn kept(alloc: Global, given: &mut Vec<Resource>, answer: FsResult<Resource>) -> Rendered {
     match answer {
         Ok(resource) => keep(alloc, given, resource),
-        Err(error) => told(alloc, &error),
+        Err(error) => rendered(alloc, &error),
     }
 }
 
-fn keep(alloc: Global, given: &mut Vec<Resource>, resource: Resource) -> Told {
+fn keep(alloc: Global, given: &mut Vec<Resource>, resource: Resource) -> Rendered {
     let place = given.len();
     given.push(resource)?;
     format!(in alloc; "#{place}")
@@ -67,10 +67,10 @@ pub fn all_kept(
     alloc: Global,
     given: &mut Vec<Resource>,
     answer: FsResult<Vec<PreopenEntry>>,
-) -> Told {
+) -> Rendered {
     let entries = match answer {
         Ok(entries) => entries,
-        Err(error) => return told(alloc, &error),
+        Err(error) => return rendered(alloc, &error),
     };
     let mut text = String::new(alloc);
     for entry in entries.iter() {
@@ -82,12 +82,12 @@ pub fn all_kept(
 }
 
 /// The text of what was read, and whether that was nothing.
-pub fn told_read(alloc: Global, answer: FsResult<ReadResult>) -> Told {
+pub fn rendered_read(alloc: Global, answer: FsResult<ReadResult>) -> Rendered {
     match answer {
         Ok(ReadResult { bytes, end }) => {
             let text = str::from_utf8(bytes.as_slice()).unwrap_or("no text");
-            told(alloc, &(text, end))
+            rendered(alloc, &(text, end))
         }
-        Err(error) => told(alloc, &error),
+        Err(error) => rendered(alloc, &error),
     }
 }

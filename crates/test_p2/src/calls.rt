@@ -35,7 +35,7 @@ macro_rules! taking {
             "read_directory_entry" => shown(alloc, $files.read_directory_entry($($id,)? fd)),
             "read" => {
                 let (len, offset) = word(rest);
-                told_read(alloc, $files.read($($id,)? fd, number(len), number(offset)))
+                rendered_read(alloc, $files.read($($id,)? fd, number(len), number(offset)))
             }
             "write" => {
                 let (text, offset) = word(rest);

@@ -10,7 +10,7 @@ use crate::calls::{named_call, view_call};
 use crate::guests::{Guest, Guests};
 use crate::trees::tree;
 use std::alloc::{AllocError, Global};
-use test_support::{Answering, Asked, Told, number, unknown, word};
+use test_support::{Answering, Asked, Rendered, number, unknown, word};
 use wasi_fs::{Dir, FsPerms, OpenMode};
 use wasi_host::{Host, SystemTime};
 use wasi_p2::{
@@ -25,7 +25,7 @@ use wasi_tree::MemTree;
 pub struct ViewRows;
 
 impl Answering for ViewRows {
-    fn answer(&mut self, asked: &Asked<'_>) -> Told {
+    fn answer(&mut self, asked: &Asked<'_>) -> Rendered {
         match asked.what {
             "view" => {
                 let pair = guest(asked.alloc, &[(0, "/")], 16)?;
@@ -88,7 +88,7 @@ fn preopen(alloc: Global, tree: &mut MemTree, node: u64, name: &str) -> Result<P
 }
 
 /// `CALL; CALL ..`, on the view that is lent.
-fn lent<H: Host, T: WasiFilesystemView<H>>(files: &mut T, asked: &Asked<'_>) -> Told
+fn lent<H: Host, T: WasiFilesystemView<H>>(files: &mut T, asked: &Asked<'_>) -> Rendered
     requires owned { FilesOwned H.Host (T.files files.old) }
 {
     let mut view = files.filesystem();
@@ -96,7 +96,7 @@ fn lent<H: Host, T: WasiFilesystemView<H>>(files: &mut T, asked: &Asked<'_>) -> 
 }
 
 /// The same, on what is given to a function.
-fn within<H: Host, T: WasiFilesystemView<H>>(files: &mut T, asked: &Asked<'_>) -> Told
+fn within<H: Host, T: WasiFilesystemView<H>>(files: &mut T, asked: &Asked<'_>) -> Rendered
     requires owned { FilesOwned H.Host (T.files files.old) }
 {
     files.with_filesystem(
@@ -109,7 +109,7 @@ fn within<H: Host, T: WasiFilesystemView<H>>(files: &mut T, asked: &Asked<'_>) -
     )
 }
 
-fn view_answers<H: Host>(view: &mut WasiFilesystemCtxView<'_, H>, asked: &Asked<'_>) -> Told
+fn view_answers<H: Host>(view: &mut WasiFilesystemCtxView<'_, H>, asked: &Asked<'_>) -> Rendered
     requires owned { FilesOwned H.Host (files_of view.old.ctx.now view.old.table.now) }
 {
     let alloc = asked.alloc;
@@ -126,7 +126,7 @@ fn view_answers<H: Host>(view: &mut WasiFilesystemCtxView<'_, H>, asked: &Asked<
 }
 
 /// `ID CALL; CALL ..`, of two guests, of which the second was given the directory `d`.
-fn several(asked: &Asked<'_>) -> Told {
+fn several(asked: &Asked<'_>) -> Rendered {
     let alloc = asked.alloc;
     let first = guest(alloc, &[(0, "/")], 16)?;
     let second = guest(alloc, &[(1, "d")], 16)?;
@@ -137,7 +137,7 @@ fn several(asked: &Asked<'_>) -> Told {
 }
 
 /// `ID CALL; CALL ..`, on the view at a place.
-fn named<H: Host, T: WasiFilesystemNamedView<H>>(files: &mut T, asked: &Asked<'_>) -> Told
+fn named<H: Host, T: WasiFilesystemNamedView<H>>(files: &mut T, asked: &Asked<'_>) -> Rendered
     requires owned { AllOwned H.Host (T.all files.old) }
 {
     let (id, calls) = word(asked.rest);
@@ -154,7 +154,7 @@ fn named_answers<H: Host, T: WasiFilesystemNamedView<H>>(
     id: NamedId,
     alloc: Global,
     calls: &str,
-) -> Told
+) -> Rendered
     requires named { id.0 < length (T.all all.old.0.now) }
     requires owned { AllOwned H.Host (T.all all.old.0.now) }
 {

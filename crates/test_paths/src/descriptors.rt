@@ -4,14 +4,14 @@ ghost use Rattle.std.specs.FinSet.{contains};
 ghost use Rattle.wasi_fs.specs.Calls.{handle_of};
 
 use std::alloc::Global;
-use test_support::{Asked, Told, done, refused, time_of, told, word};
+use test_support::{Asked, Rendered, done, refused, time_of, rendered, word};
 use wasi_fs::{
     Descriptor, DescriptorFlags, Dir, File, Flags, FsPerms, OpenFlags, OpenMode, PathFlags,
 };
 use wasi_host::{Advice, Handle, Host, HostError};
 
 /// `ATIME MTIME`: sets the times of the directory itself.
-pub fn set_own_times<H: Host>(host: &mut H, root: Handle, asked: &Asked<'_>) -> Told
+pub fn set_own_times<H: Host>(host: &mut H, root: Handle, asked: &Asked<'_>) -> Rendered
     requires { contains (H.live host.old) root ≡ true }
 {
     let (atime, mtime) = word(asked.rest);
@@ -21,12 +21,12 @@ pub fn set_own_times<H: Host>(host: &mut H, root: Handle, asked: &Asked<'_>) -> 
 }
 
 /// `MODE`: stores the directory itself, which was opened for this.
-pub fn store_own<H: Host>(host: &mut H, root: Handle, asked: &Asked<'_>) -> Told
+pub fn store_own<H: Host>(host: &mut H, root: Handle, asked: &Asked<'_>) -> Rendered
     requires { contains (H.live host.old) root ≡ true }
 {
     let mode = OpenMode::from_bits_retain(bits(asked.rest));
     let dir = Dir::new(root, FsPerms::ReadWrite, mode);
-    told_stored(asked.alloc, host, &Descriptor::Dir(dir))
+    rendered_stored(asked.alloc, host, &Descriptor::Dir(dir))
 }
 
 fn bits(word: &str) -> usize {
@@ -35,7 +35,7 @@ fn bits(word: &str) -> usize {
 
 /// `PERMISSIONS PATH_FLAGS PATH OPEN_FLAGS FLAGS`.
 #[tactic(auto, using(wasi_host::proofs::Chain::live_rules))]
-pub fn opened<H: Host>(host: &mut H, root: Handle, asked: &Asked<'_>) -> Told
+pub fn opened<H: Host>(host: &mut H, root: Handle, asked: &Asked<'_>) -> Rendered
     requires { contains (H.live host.old) root ≡ true }
 {
     let alloc = asked.alloc;
@@ -54,9 +54,9 @@ pub fn opened<H: Host>(host: &mut H, root: Handle, asked: &Asked<'_>) -> Told
     let flags = DescriptorFlags::from_bits_retain(bits(flags));
     match dir.open_at(alloc, host, path_flags, path, open_flags, flags) {
         Ok(descriptor) => match asked.what {
-            "use_at" => told_use(alloc, host, &descriptor),
-            "store_at" => told_stored(alloc, host, &descriptor),
-            _ => told_opened(alloc, host, &Descriptor::Dir(dir), &descriptor),
+            "use_at" => rendered_use(alloc, host, &descriptor),
+            "store_at" => rendered_stored(alloc, host, &descriptor),
+            _ => rendered_opened(alloc, host, &Descriptor::Dir(dir), &descriptor),
         },
         Err(error) => refused(alloc, error),
     }
@@ -79,7 +79,7 @@ fn mode_of(descriptor: &Descriptor) -> OpenMode {
 }
 
 /// Its mode, what is said of it, its kind, its hash, and whether it is the node of `root`.
-fn told_opened<H: Host>(alloc: Global, host: &mut H, root: &Descriptor, opened: &Descriptor) -> Told
+fn rendered_opened<H: Host>(alloc: Global, host: &mut H, root: &Descriptor, opened: &Descriptor) -> Rendered
     requires root { contains (H.live host.old) (handle_of root.now) ≡ true }
     requires opened { contains (H.live host.old) (handle_of opened.now) ≡ true }
 {
@@ -88,11 +88,11 @@ fn told_opened<H: Host>(alloc: Global, host: &mut H, root: &Descriptor, opened: 
     let kind = opened.get_type(host);
     let hash = opened.metadata_hash(host);
     let is_root = opened.is_same_object(host, root);
-    told(alloc, &(mode, stat, kind, hash, is_root))
+    rendered(alloc, &(mode, stat, kind, hash, is_root))
 }
 
 /// Its mode, whether it can be read and written, and its size.
-fn told_use<H: Host>(alloc: Global, host: &mut H, opened: &Descriptor) -> Told
+fn rendered_use<H: Host>(alloc: Global, host: &mut H, opened: &Descriptor) -> Rendered
     requires { contains (H.live host.old) (handle_of opened.now) ≡ true }
 {
     let mode = mode_of(opened);
@@ -100,23 +100,23 @@ fn told_use<H: Host>(alloc: Global, host: &mut H, opened: &Descriptor) -> Told
     let reads = host.pread(handle, &mut [], 0).is_ok();
     let writes = host.pwrite(handle, &[], 0).is_ok();
     match host.stat(handle) {
-        Ok(metadata) => told(alloc, &(mode, reads, writes, metadata.len())),
-        Err(code) => told(alloc, &code),
+        Ok(metadata) => rendered(alloc, &(mode, reads, writes, metadata.len())),
+        Err(code) => rendered(alloc, &code),
     }
 }
 
 /// What it is for, whether it was stored, and of a file what became of it.
-fn told_stored<H: Host>(alloc: Global, host: &mut H, opened: &Descriptor) -> Told
+fn rendered_stored<H: Host>(alloc: Global, host: &mut H, opened: &Descriptor) -> Rendered
     requires { contains (H.live host.old) (handle_of opened.now) ≡ true }
 {
     let flags = opened.get_flags(host);
     let stored = opened.sync(alloc, host);
     let data_stored = opened.sync_data(alloc, host);
     match opened {
-        Descriptor::Dir(_) => told(alloc, &(flags, stored, data_stored)),
+        Descriptor::Dir(_) => rendered(alloc, &(flags, stored, data_stored)),
         Descriptor::File(file) => {
             let sized = sized(host, file);
-            told(alloc, &(flags, stored, data_stored, sized))
+            rendered(alloc, &(flags, stored, data_stored, sized))
         }
     }
 }

@@ -3,12 +3,12 @@ ghost use Rattle.std.specs.Prelude.{◌≡◌, true};
 ghost use Rattle.std.specs.FinSet.{contains};
 
 use crate::descriptors::{opened, set_own_times, store_own};
-use test_support::{Asked, Told, answered, done, time_of, unknown, word};
+use test_support::{Asked, Rendered, answered, done, time_of, unknown, word};
 use wasi_fs::{Dir, Flags, FsPerms, OpenMode, PathFlags};
 use wasi_host::{Handle, Host};
 
 /// `CALL PATH ARGUMENTS`, of node 0 with all permissions.
-pub fn dir_call<H: Host>(host: &mut H, root: Handle, asked: &Asked<'_>) -> Told
+pub fn dir_call<H: Host>(host: &mut H, root: Handle, asked: &Asked<'_>) -> Rendered
     requires { contains (H.live host.old) root ≡ true }
 {
     match asked.what {
@@ -24,7 +24,7 @@ pub fn dir_call<H: Host>(host: &mut H, root: Handle, asked: &Asked<'_>) -> Told
     }
 }
 
-fn change<H: Host>(host: &mut H, dir: &Dir, asked: &Asked<'_>) -> Told
+fn change<H: Host>(host: &mut H, dir: &Dir, asked: &Asked<'_>) -> Rendered
     requires { contains (H.live host.old) dir.now.dir ≡ true }
 {
     let alloc = asked.alloc;
@@ -49,7 +49,7 @@ fn change<H: Host>(host: &mut H, dir: &Dir, asked: &Asked<'_>) -> Told
     }
 }
 
-fn look<H: Host>(host: &mut H, dir: &Dir, asked: &Asked<'_>) -> Told
+fn look<H: Host>(host: &mut H, dir: &Dir, asked: &Asked<'_>) -> Rendered
     requires { contains (H.live host.old) dir.now.dir ≡ true }
 {
     let alloc = asked.alloc;

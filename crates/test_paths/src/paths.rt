@@ -4,7 +4,7 @@ ghost use Rattle.std.specs.FinSet.{contains};
 
 use std::alloc::Global;
 use test_support::{
-    Asked, Told, answered, done, refused, time_of, told, told_node, told_times, unknown, word,
+    Asked, Rendered, answered, done, refused, time_of, rendered, rendered_node, rendered_times, unknown, word,
 };
 use wasi_host::{FollowSymlinks, Handle, Host, HostError, OpenOptions};
 use wasi_resolve::{
@@ -13,7 +13,7 @@ use wasi_resolve::{
 };
 
 /// `CALL PATH ARGUMENTS`.
-pub fn path_call<H: Host>(host: &mut H, start: Handle, asked: &Asked<'_>) -> Told
+pub fn path_call<H: Host>(host: &mut H, start: Handle, asked: &Asked<'_>) -> Rendered
     requires { contains (H.live host.old) start ≡ true }
 {
     let alloc = asked.alloc;
@@ -58,7 +58,7 @@ fn make_file<H: Host>(
     Ok(())
 }
 
-fn look<H: Host>(host: &mut H, start: Handle, asked: &Asked<'_>) -> Told
+fn look<H: Host>(host: &mut H, start: Handle, asked: &Asked<'_>) -> Rendered
     requires { contains (H.live host.old) start ≡ true }
 {
     use FollowSymlinks::{No, Yes};
@@ -66,19 +66,19 @@ fn look<H: Host>(host: &mut H, start: Handle, asked: &Asked<'_>) -> Told
     let alloc = asked.alloc;
     let path = word(asked.rest).0;
     match asked.what {
-        "stat" => told_node(alloc, stat(alloc, host, start, path, No)),
-        "stat_followed" => told_node(alloc, stat(alloc, host, start, path, Yes)),
-        "times" => told_times(alloc, stat(alloc, host, start, path, No)),
+        "stat" => rendered_node(alloc, stat(alloc, host, start, path, No)),
+        "stat_followed" => rendered_node(alloc, stat(alloc, host, start, path, Yes)),
+        "times" => rendered_times(alloc, stat(alloc, host, start, path, No)),
         "read_link" => answered(alloc, read_link(alloc, host, start, path)),
         "read_dir" => answered(alloc, read_dir(alloc, host, start)),
         "open_dir" => match open_dir(alloc, host, start, path) {
-            Ok(directory) => told(alloc, &(directory != start)),
+            Ok(directory) => rendered(alloc, &(directory != start)),
             Err(error) => refused(alloc, error),
         },
         "open_parent" => match open_parent(alloc, host, start, path) {
             Ok(parent) => {
                 let is_start = parent.directory == MaybeOwned::Borrowed(start);
-                told(alloc, &(parent.name.as_str(), is_start))
+                rendered(alloc, &(parent.name.as_str(), is_start))
             }
             Err(error) => refused(alloc, error),
         },

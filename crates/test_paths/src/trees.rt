@@ -2,7 +2,7 @@
 use crate::dirs::dir_call;
 use crate::paths::path_call;
 use std::alloc::{AllocError, Global};
-use test_support::{Answering, Asked, Told, told, unknown};
+use test_support::{Answering, Asked, Rendered, rendered, unknown};
 use wasi_tree::{Limits, MemTree, NewContent, NewNode, TreeError};
 
 /// An empty directory, where no node has a number above the last one.
@@ -34,19 +34,19 @@ impl PathRows {
     }
 
     /// `LAST`: takes an empty directory.
-    fn begin(&mut self, alloc: Global, last: u16) -> Told {
+    fn begin(&mut self, alloc: Global, last: u16) -> Rendered {
         match empty_tree(alloc, last) {
             Ok(tree) => {
                 self.tree = tree;
                 String::from_str(alloc, "ok")
             }
-            Err(error) => told(alloc, &error),
+            Err(error) => rendered(alloc, &error),
         }
     }
 }
 
 impl Answering for PathRows {
-    fn answer(&mut self, asked: &Asked<'_>) -> Told {
+    fn answer(&mut self, asked: &Asked<'_>) -> Rendered {
         match asked.what {
             "new" => self.begin(asked.alloc, asked.rest.parse::<u16>().unwrap_or(0)),
             _ => ask_root(&mut self.tree, asked),
@@ -56,7 +56,7 @@ impl Answering for PathRows {
 
 /// What is asked by a handle of node 0.
 #[tactic(auto, using(wasi_tree::proofs::SlotLemmas::slot_rules))]
-fn ask_root(tree: &mut MemTree, asked: &Asked<'_>) -> Told {
+fn ask_root(tree: &mut MemTree, asked: &Asked<'_>) -> Rendered {
     let Ok(root) = tree.handle(0) else {
         return Err(AllocError);
     };

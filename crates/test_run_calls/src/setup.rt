@@ -99,7 +99,7 @@ impl Begun {
     }
 
     // The report of how it stands, with these answers, these bytes of its memory, and these nodes touched.
-    fn told(
+    fn rendered(
         &self,
         answers: Answers,
         shown: Vec<Vec<u8>>,
@@ -123,7 +123,7 @@ impl Begun {
         };
         let shown = self.shown()?;
         let touched = self.context.host().inner().touched(self.alloc)?;
-        self.told(answers, shown, touched)
+        self.rendered(answers, shown, touched)
     }
 
     /// Makes the calls that are left: what became of it.
@@ -132,7 +132,7 @@ impl Begun {
             return Err(AllocError);
         };
         let none = Answers::with_room(self.alloc, 0)?;
-        let report = self.told(none, Vec::new(self.alloc), Vec::new(self.alloc))?;
+        let report = self.rendered(none, Vec::new(self.alloc), Vec::new(self.alloc))?;
         let memory = self.memory.bytes().to_vec(self.alloc)?;
         Ok(Ended {
             answers,

@@ -139,7 +139,7 @@ fn agrees(alloc: Global, exit: u8, taken: &[u8], wanted: Wanted<'_>) -> Result<b
 }
 
 // How a run ended, with the beginning of what was taken.
-fn told(alloc: Global, exit: u8, taken: &[u8]) -> Result<String, AllocError> {
+fn rendered(alloc: Global, exit: u8, taken: &[u8]) -> Result<String, AllocError> {
     let beginning = String::from_utf8_lossy(alloc, taken.get(..SHOWN).unwrap_or(taken))?;
     let shown = beginning.as_str().trim_end();
     format!(in alloc; "ended with {exit}, and wrote {shown}")
@@ -155,7 +155,7 @@ fn difference_of(
     if agrees(alloc, exit, sink.taken(), wanted)? {
         return Ok(None);
     }
-    Ok(Some(told(alloc, exit, sink.taken())?))
+    Ok(Some(rendered(alloc, exit, sink.taken())?))
 }
 
 // How the first run ended otherwise than the row says, of each text that a script begins with, and that is shorter.

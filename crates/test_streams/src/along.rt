@@ -3,7 +3,7 @@ ghost use Rattle.std.specs.Prelude.{◌≡◌, ℕ, true, OnOk};
 ghost use Rattle.std.specs.FinSet.{contains, remove};
 
 use std::alloc::{AllocError, Global};
-use test_support::{Asked, Told};
+use test_support::{Asked, Rendered};
 use wasi_host::Host;
 
 /// A stream that answers calls by their names.
@@ -12,7 +12,7 @@ pub trait Calls<H: Host>: Drop {
     ghost handle: { Self → ℕ };
 
     /// `CALL ARGUMENTS`.
-    fn call(&mut self, host: &mut H, asked: &Asked<'_>) -> Told
+    fn call(&mut self, host: &mut H, asked: &Asked<'_>) -> Rendered
         requires live { contains (H.live host.old) (handle self.old) ≡ true }
         ensures live { H.live host.new ≡ H.live host.old }
         ensures handle { handle self.new ≡ handle self.old };
@@ -24,7 +24,7 @@ pub trait Calls<H: Host>: Drop {
 }
 
 /// `CALL; CALL ..`: the answers of the calls, after which the stream is closed.
-pub fn along<H: Host, S: Calls<H>>(host: &mut H, mut stream: S, alloc: Global, calls: &str) -> Told
+pub fn along<H: Host, S: Calls<H>>(host: &mut H, mut stream: S, alloc: Global, calls: &str) -> Rendered
     requires { contains (H.live host.old) (S.handle stream) ≡ true }
     ensures { OnOk result (H.live host.new ≡ remove (H.live host.old) (S.handle stream)) }
 {

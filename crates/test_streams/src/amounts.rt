@@ -5,7 +5,7 @@ ghost use Rattle.std.specs.Result.{result_map_both};
 ghost use Rattle.wasi_host.specs.HostLaws.{LiveGot};
 
 use std::alloc::{AllocError, Global};
-use test_support::{Asked, Told, number, refused, told};
+use test_support::{Asked, Rendered, number, refused, rendered};
 use wasi_fs::{File, FsPerms, OpenMode};
 use wasi_host::{Handle, Host, HostError, OpenOptions};
 use wasi_paths::Name;
@@ -18,14 +18,14 @@ use wasi_tree::{Limits, MemTree, NewContent, NewEntry, NewNode, TreeError};
 const CHUNK: usize = 65_536;
 
 /// `COUNT`: adds an entry to a table of one and deletes it, so many times; how many are live at the end.
-pub fn turns_line(asked: &Asked<'_>) -> Told {
+pub fn turns_line(asked: &Asked<'_>) -> Rendered {
     let mut table = ResourceTable::with_max(asked.alloc, 1);
     for _ in 0..number(asked.rest) {
         if let Err(error) = turn(&mut table) {
-            return told(asked.alloc, &error);
+            return rendered(asked.alloc, &error);
         }
     }
-    told(asked.alloc, &table.live())
+    rendered(asked.alloc, &table.live())
 }
 
 fn turn(table: &mut ResourceTable) -> Result<(), TableError> {
@@ -41,7 +41,7 @@ fn turn(table: &mut ResourceTable) -> Result<(), TableError> {
 /// `SIZE`: reads a file of so many bytes through an input stream and writes them through an output stream into another;
 /// the size of that.
 #[tactic(auto, using(wasi_tree::proofs::SlotLemmas::slot_rules))]
-pub fn copy_line(asked: &Asked<'_>) -> Told {
+pub fn copy_line(asked: &Asked<'_>) -> Rendered {
     let Ok(mut tree) = tree(asked.alloc, number(asked.rest) as usize) else {
         return Err(AllocError);
     };
@@ -49,7 +49,7 @@ pub fn copy_line(asked: &Asked<'_>) -> Told {
         return Err(AllocError);
     };
     match copied_below(asked.alloc, &mut tree, root) {
-        Ok(copied) => told(asked.alloc, &copied),
+        Ok(copied) => rendered(asked.alloc, &copied),
         Err(error) => refused(asked.alloc, error),
     }
 }

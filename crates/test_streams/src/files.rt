@@ -7,7 +7,7 @@ use crate::inputs::input_line;
 use crate::outputs::output_line;
 use crate::tables::table_line;
 use std::alloc::{AllocError, Global};
-use test_support::{Answering, Asked, Told, refused, unknown};
+use test_support::{Answering, Asked, Rendered, refused, unknown};
 use wasi_fs::{File, Flags, FsPerms, OpenMode};
 use wasi_host::{Handle, Host, OpenOptions};
 use wasi_paths::Name;
@@ -18,7 +18,7 @@ use wasi_tree::{Limits, MemTree, NewContent, NewEntry, NewNode, TreeError};
 pub struct StreamRows;
 
 impl Answering for StreamRows {
-    fn answer(&mut self, asked: &Asked<'_>) -> Told {
+    fn answer(&mut self, asked: &Asked<'_>) -> Rendered {
         match asked.what {
             "table" => table_line(asked),
             "turns" => turns_line(asked),
@@ -45,7 +45,7 @@ fn tree(alloc: Global) -> Result<MemTree, TreeError> {
 }
 
 #[tactic(auto, using(wasi_tree::proofs::SlotLemmas::slot_rules))]
-fn with_tree(asked: &Asked<'_>) -> Told {
+fn with_tree(asked: &Asked<'_>) -> Rendered {
     let Ok(mut tree) = tree(asked.alloc) else {
         return Err(AllocError);
     };
@@ -57,7 +57,7 @@ fn with_tree(asked: &Asked<'_>) -> Told {
 
 /// What is asked of the file, opened for reading and writing, or for reading alone.
 #[tactic(auto, using(wasi_host::proofs::Chain::live_rules))]
-fn with_file<H: Host>(host: &mut H, root: Handle, asked: &Asked<'_>) -> Told
+fn with_file<H: Host>(host: &mut H, root: Handle, asked: &Asked<'_>) -> Rendered
     requires { contains (H.live host.old) root ≡ true }
 {
     let mut options = OpenOptions::new();

@@ -8,7 +8,7 @@ use crate::along::{Calls, along};
 use bytes::Bytes;
 use std::alloc::{AllocError, Global};
 use std::fmt::Debug;
-use test_support::{Asked, Told, number, refused, told, unknown};
+use test_support::{Asked, Rendered, number, refused, rendered, unknown};
 use wasi_fs::File;
 use wasi_host::{Handle, Host, HostError};
 use wasi_streams::{FileOutputStream, StreamError};
@@ -16,7 +16,7 @@ use wasi_streams::{FileOutputStream, StreamError};
 /// `OFFSET: CALL; CALL ..`: the answers of calls of a stream from this offset on, and then the file's text. The offset
 /// `end` is behind the file's last byte.
 #[tactic(auto, using(wasi_host::proofs::Chain::live_rules))]
-pub fn output_line<H: Host>(host: &mut H, file: &File, asked: &Asked<'_>) -> Told
+pub fn output_line<H: Host>(host: &mut H, file: &File, asked: &Asked<'_>) -> Rendered
     requires { contains (H.live host.old) file.now.file ≡ true }
 {
     let alloc = asked.alloc;
@@ -50,17 +50,17 @@ fn stream_at<H: Host>(
 impl<H: Host> Calls<H> for FileOutputStream {
     ghost handle = { λ s. s.file };
 
-    fn call(&mut self, host: &mut H, asked: &Asked<'_>) -> Told {
+    fn call(&mut self, host: &mut H, asked: &Asked<'_>) -> Rendered {
         let alloc = asked.alloc;
         let bytes = Bytes::copy_from_slice(alloc, asked.rest.as_bytes())?;
         match asked.what {
-            "write" => told_done(alloc, self.write(bytes)),
+            "write" => rendered_done(alloc, self.write(bytes)),
             "blocking_write_and_flush" => {
                 let done = self.blocking_write_and_flush(host, bytes);
-                told_done(alloc, done)
+                rendered_done(alloc, done)
             }
-            "flush" => told_done(alloc, self.flush()),
-            "check_write" => told_done(alloc, self.check_write()),
+            "flush" => rendered_done(alloc, self.flush()),
+            "check_write" => rendered_done(alloc, self.check_write()),
             "ready" => {
                 self.ready(host)?;
                 String::from_str(alloc, "()")
@@ -79,11 +79,11 @@ impl<H: Host> Calls<H> for FileOutputStream {
 }
 
 /// What is answered, or why nothing is.
-fn told_done<T: Debug + Drop>(alloc: Global, done: Result<T, StreamError>) -> Told {
+fn rendered_done<T: Debug + Drop>(alloc: Global, done: Result<T, StreamError>) -> Rendered {
     match done {
-        Ok(value) => told(alloc, &value),
+        Ok(value) => rendered(alloc, &value),
         Err(StreamError::Memory) => Err(AllocError),
-        Err(error) => told(alloc, &error),
+        Err(error) => rendered(alloc, &error),
     }
 }
 
@@ -99,6 +99,6 @@ fn push_file<H: Host>(
     let mut buf = [0u8; 8];
     let count = host.pread(file, &mut buf, 0).unwrap_or(0);
     let bytes = buf.get(..count).unwrap_or(&[]);
-    let answer = told(alloc, &str::from_utf8(bytes).unwrap_or("no text"))?;
+    let answer = rendered(alloc, &str::from_utf8(bytes).unwrap_or("no text"))?;
     text.push_str(answer.as_str())
 }

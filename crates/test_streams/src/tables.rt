@@ -1,11 +1,11 @@
 //! Calls of a table of resources.
 use std::alloc::{AllocError, Global};
-use test_support::{Asked, Told, told, unknown};
+use test_support::{Asked, Rendered, rendered, unknown};
 use wasi_streams::{Entry, Resource, ResourceTable, TableError, TableRefused};
 
 /// `MAX: CALL; CALL ..`: the answers of calls of a table of so many entries. A number stands for the one that was given
 /// so many pushes before it in the line, of which the first is 0.
-pub fn table_line(asked: &Asked<'_>) -> Told {
+pub fn table_line(asked: &Asked<'_>) -> Rendered {
     let alloc = asked.alloc;
     let (max, calls) = asked.rest.split_once(": ").unwrap_or((asked.rest, ""));
     let mut table = ResourceTable::with_max(alloc, max.parse::<u32>().unwrap_or(0));
@@ -21,7 +21,7 @@ pub fn table_line(asked: &Asked<'_>) -> Told {
     Ok(text)
 }
 
-fn table_call(table: &mut ResourceTable, given: &mut Vec<Resource>, asked: &Asked<'_>) -> Told {
+fn table_call(table: &mut ResourceTable, given: &mut Vec<Resource>, asked: &Asked<'_>) -> Rendered {
     let alloc = asked.alloc;
     match asked.what {
         "push" => push(table, given, asked),
@@ -29,7 +29,7 @@ fn table_call(table: &mut ResourceTable, given: &mut Vec<Resource>, asked: &Aske
             Ok(()) => String::from_str(alloc, "ok"),
             Err(error) => refused(alloc, error),
         },
-        "live" => told(alloc, &table.live()),
+        "live" => rendered(alloc, &table.live()),
         _ => match given.get(asked.rest.parse::<usize>().unwrap_or(0)) {
             Some(resource) => of_resource(table, *resource, asked),
             None => unknown(alloc),
@@ -37,7 +37,7 @@ fn table_call(table: &mut ResourceTable, given: &mut Vec<Resource>, asked: &Aske
     }
 }
 
-fn push(table: &mut ResourceTable, given: &mut Vec<Resource>, asked: &Asked<'_>) -> Told {
+fn push(table: &mut ResourceTable, given: &mut Vec<Resource>, asked: &Asked<'_>) -> Rendered {
     let alloc = asked.alloc;
     let entry = match asked.rest {
         "stdin" => Entry::Stdin,
@@ -56,7 +56,7 @@ fn push(table: &mut ResourceTable, given: &mut Vec<Resource>, asked: &Asked<'_>)
     }
 }
 
-fn of_resource(table: &mut ResourceTable, resource: Resource, asked: &Asked<'_>) -> Told {
+fn of_resource(table: &mut ResourceTable, resource: Resource, asked: &Asked<'_>) -> Rendered {
     let alloc = asked.alloc;
     match asked.what {
         "get" => match table.get(resource) {
@@ -91,9 +91,9 @@ fn kind(entry: &Entry) -> &'static str {
     }
 }
 
-fn refused(alloc: Global, error: TableError) -> Told {
+fn refused(alloc: Global, error: TableError) -> Rendered {
     match error {
         TableError::Memory => Err(AllocError),
-        _ => told(alloc, &error),
+        _ => rendered(alloc, &error),
     }
 }

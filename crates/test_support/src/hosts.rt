@@ -1,5 +1,5 @@
 //! How times are asked for, and how a host's answers are told.
-use crate::line::{Told, number, told};
+use crate::line::{Rendered, number, rendered};
 use std::alloc::{AllocError, Global};
 use std::fmt::Debug;
 use wasi_host::{ErrorCode, HostError, Metadata, SystemTime, system_time_from_rustix};
@@ -14,15 +14,15 @@ pub fn time_of(word: &str) -> Option<SystemTime> {
 }
 
 /// The code of a refusal.
-pub fn refused(alloc: Global, error: HostError) -> Told {
+pub fn refused(alloc: Global, error: HostError) -> Rendered {
     match error {
-        HostError::Code(code) => told(alloc, &code),
+        HostError::Code(code) => rendered(alloc, &code),
         HostError::Memory => Err(AllocError),
     }
 }
 
 /// `ok`, or the code of the refusal.
-pub fn done(alloc: Global, answer: Result<(), HostError>) -> Told {
+pub fn done(alloc: Global, answer: Result<(), HostError>) -> Rendered {
     match answer {
         Ok(()) => String::from_str(alloc, "ok"),
         Err(error) => refused(alloc, error),
@@ -30,25 +30,25 @@ pub fn done(alloc: Global, answer: Result<(), HostError>) -> Told {
 }
 
 /// What is answered, or the code of the refusal.
-pub fn answered<T: Debug + Drop>(alloc: Global, answer: Result<T, HostError>) -> Told {
+pub fn answered<T: Debug + Drop>(alloc: Global, answer: Result<T, HostError>) -> Rendered {
     match answer {
-        Ok(value) => told(alloc, &value),
+        Ok(value) => rendered(alloc, &value),
         Err(error) => refused(alloc, error),
     }
 }
 
 /// The node's number, its kind, its size, and its count of links; or the code of the refusal.
-pub fn told_node(alloc: Global, answer: Result<Metadata, HostError>) -> Told {
+pub fn rendered_node(alloc: Global, answer: Result<Metadata, HostError>) -> Rendered {
     match answer {
-        Ok(is) => told(alloc, &(is.ino(), is.file_type(), is.len(), is.nlink())),
+        Ok(is) => rendered(alloc, &(is.ino(), is.file_type(), is.len(), is.nlink())),
         Err(error) => refused(alloc, error),
     }
 }
 
 /// The node's times of last read, last change and creation; or the code of the refusal.
-pub fn told_times(alloc: Global, answer: Result<Metadata, HostError>) -> Told {
+pub fn rendered_times(alloc: Global, answer: Result<Metadata, HostError>) -> Rendered {
     match answer {
-        Ok(is) => told(alloc, &(is.accessed(), is.modified(), is.created())),
+        Ok(is) => rendered(alloc, &(is.accessed(), is.modified(), is.created())),
         Err(error) => refused(alloc, error),
     }
 }

@@ -11,8 +11,8 @@ mod line;
 mod table;
 mod tally;
 
-pub use hosts::{answered, coded, done, refused, time_of, told_node, told_times};
+pub use hosts::{answered, coded, done, refused, time_of, rendered_node, rendered_times};
 pub use input::input_text;
-pub use line::{Asked, Told, list_of, number, told, unknown, word};
+pub use line::{Asked, Rendered, list_of, number, rendered, unknown, word};
 pub use table::{Answering, try_table};
 pub use tally::Tally;

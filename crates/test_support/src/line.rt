@@ -4,7 +4,7 @@ use std::fmt::Debug;
 use std::str::FromStr;
 
 /// What a line is answered.
-pub type Told = Result<String, AllocError>;
+pub type Rendered = Result<String, AllocError>;
 
 /// What a text asks: its first word, what is left behind it, and what an answer takes memory from.
 #[derive(Clone, Copy)]
@@ -51,11 +51,11 @@ where
 }
 
 /// A value as `{:?}` prints it.
-pub fn told<T: Debug>(alloc: Global, value: &T) -> Told {
+pub fn rendered<T: Debug>(alloc: Global, value: &T) -> Rendered {
     format!(in alloc; "{value:?}")
 }
 
 /// The answer where a line asks what nobody answers.
-pub fn unknown(alloc: Global) -> Told {
+pub fn unknown(alloc: Global) -> Rendered {
     String::from_str(alloc, "nobody answers this")
 }

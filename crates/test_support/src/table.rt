@@ -1,5 +1,5 @@
 //! Trying a table.
-use crate::line::{Asked, Told};
+use crate::line::{Asked, Rendered};
 use crate::tally::Tally;
 use std::alloc::{AllocError, Global};
 use std::io::{Stdin, Stdout};
@@ -8,7 +8,7 @@ use wasi_io::{Sink, Source, StdinSource, StdoutSink, read_all, write_all};
 
 /// What answers the lines of a table, one after another.
 pub trait Answering {
-    fn answer(&mut self, asked: &Asked<'_>) -> Told;
+    fn answer(&mut self, asked: &Asked<'_>) -> Rendered;
 }
 
 /// What a table came to.

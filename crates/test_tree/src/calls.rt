@@ -5,7 +5,7 @@ ghost use Rattle.wasi_tree.specs.MemState.{live_of};
 
 use std::alloc::Global;
 use test_support::{
-    Asked, Told, answered, coded, done, number, refused, time_of, told, told_node, told_times,
+    Asked, Rendered, answered, coded, done, number, refused, time_of, rendered, rendered_node, rendered_times,
     unknown, word,
 };
 use wasi_host::{Advice, Handle, Host, HostError};
@@ -32,7 +32,7 @@ pub fn start_of(tree: &mut MemTree, it: Handle, word: &str) -> Result<Handle, Ha
 }
 
 /// `START CALL ARGUMENTS`.
-pub fn call(tree: &mut MemTree, it: Handle, line: &Asked<'_>) -> Told
+pub fn call(tree: &mut MemTree, it: Handle, line: &Asked<'_>) -> Rendered
     requires { contains (live_of tree.old.handles) it ≡ true }
     ensures { contains (live_of tree.new.handles) it ≡ true }
 {
@@ -43,12 +43,12 @@ pub fn call(tree: &mut MemTree, it: Handle, line: &Asked<'_>) -> Told
             "rename" => pair(tree, it, start, &asked),
             _ => change(tree, start, &asked),
         },
-        Err(error) => told(line.alloc, &error),
+        Err(error) => rendered(line.alloc, &error),
     }
 }
 
 /// `NAME START NAME`, the old name first.
-fn pair(tree: &mut MemTree, it: Handle, old: Handle, asked: &Asked<'_>) -> Told
+fn pair(tree: &mut MemTree, it: Handle, old: Handle, asked: &Asked<'_>) -> Rendered
     requires it { contains (live_of tree.old.handles) it ≡ true }
     requires old { contains (live_of tree.old.handles) old ≡ true }
     ensures { contains (live_of tree.new.handles) it ≡ true }
@@ -60,7 +60,7 @@ fn pair(tree: &mut MemTree, it: Handle, old: Handle, asked: &Asked<'_>) -> Told
             let given = at_two(tree, asked.what, old, old_name, new, new_name);
             done(asked.alloc, given)
         }
-        Err(error) => told(asked.alloc, &error),
+        Err(error) => rendered(asked.alloc, &error),
     }
 }
 
@@ -92,7 +92,7 @@ pub fn at_two<H: Host>(
 }
 
 /// A change of what a name of a directory holds.
-pub fn change<H: Host>(host: &mut H, start: Handle, asked: &Asked<'_>) -> Told
+pub fn change<H: Host>(host: &mut H, start: Handle, asked: &Asked<'_>) -> Rendered
     requires { contains (H.live host.old) start ≡ true }
     ensures { H.live host.new ≡ H.live host.old }
 {
@@ -114,14 +114,14 @@ pub fn change<H: Host>(host: &mut H, start: Handle, asked: &Asked<'_>) -> Told
 }
 
 /// A look at a directory, or at what a name of it holds.
-fn look<H: Host>(host: &mut H, start: Handle, asked: &Asked<'_>) -> Told
+fn look<H: Host>(host: &mut H, start: Handle, asked: &Asked<'_>) -> Rendered
     requires { contains (H.live host.old) start ≡ true }
     ensures { H.live host.new ≡ H.live host.old }
 {
     let alloc = asked.alloc;
     let name = name_of(asked.rest);
     match asked.what {
-        "stat" => told_node(alloc, host.stat_at(start, name)),
+        "stat" => rendered_node(alloc, host.stat_at(start, name)),
         "readlink" => {
             let link = host.read_link_at(alloc, start, name);
             answered(alloc, link)
@@ -136,15 +136,15 @@ fn look<H: Host>(host: &mut H, start: Handle, asked: &Asked<'_>) -> Told
 }
 
 /// A call of what a handle stands for.
-fn held_call<H: Host>(host: &mut H, held: Handle, asked: &Asked<'_>) -> Told
+fn held_call<H: Host>(host: &mut H, held: Handle, asked: &Asked<'_>) -> Rendered
     requires { contains (H.live host.old) held ≡ true }
     ensures { H.live host.new ≡ H.live host.old }
 {
     let alloc = asked.alloc;
     let (first, second) = word(asked.rest);
     match asked.what {
-        "held" => told_node(alloc, coded(host.stat(held))),
-        "when" => told_times(alloc, coded(host.stat(held))),
+        "held" => rendered_node(alloc, coded(host.stat(held))),
+        "when" => rendered_times(alloc, coded(host.stat(held))),
         "set_times" => {
             let set = host.set_times(held, time_of(first), time_of(second));
             done(alloc, coded(set))
@@ -156,7 +156,7 @@ fn held_call<H: Host>(host: &mut H, held: Handle, asked: &Asked<'_>) -> Told
 }
 
 /// A call of a file.
-fn file_call<H: Host>(host: &mut H, file: Handle, asked: &Asked<'_>) -> Told
+fn file_call<H: Host>(host: &mut H, file: Handle, asked: &Asked<'_>) -> Rendered
     requires { contains (H.live host.old) file ≡ true }
     ensures { H.live host.new ≡ H.live host.old }
 {
@@ -195,7 +195,7 @@ fn advice_of(word: &str) -> Advice {
 }
 
 /// How many bytes a file gave, and a buffer of 16 bytes into which they were read.
-fn read<H: Host>(alloc: Global, host: &mut H, file: Handle, offset: u64) -> Told
+fn read<H: Host>(alloc: Global, host: &mut H, file: Handle, offset: u64) -> Rendered
     requires { contains (H.live host.old) file ≡ true }
     ensures { H.live host.new ≡ H.live host.old }
 {
@@ -203,7 +203,7 @@ fn read<H: Host>(alloc: Global, host: &mut H, file: Handle, offset: u64) -> Told
     match coded(host.pread(file, &mut buf, offset)) {
         Ok(count) => {
             let text = str::from_utf8(&buf).unwrap_or("no text");
-            told(alloc, &(count, text))
+            rendered(alloc, &(count, text))
         }
         Err(error) => refused(alloc, error),
     }

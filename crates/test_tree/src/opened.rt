@@ -5,7 +5,7 @@ ghost use Rattle.wasi_tree.specs.MemState.{live_of};
 
 use crate::calls::{call, name_of, start_of};
 use std::alloc::{AllocError, Global};
-use test_support::{Asked, Told, refused, word};
+use test_support::{Asked, Rendered, refused, word};
 use wasi_host::{ErrorCode, Handle, Host, HostError, OpenOptions};
 use wasi_tree::MemTree;
 
@@ -60,7 +60,7 @@ fn opened_by(tree: &mut MemTree, it: Handle, what: &str, text: &str) -> Result<H
 }
 
 /// `START NAME OPTIONS; CALL; CALL ..`: what is opened, or a copy of it, is `it` in the calls behind.
-pub fn with_opened(tree: &mut MemTree, it: Handle, asked: &Asked<'_>) -> Told
+pub fn with_opened(tree: &mut MemTree, it: Handle, asked: &Asked<'_>) -> Rendered
     requires { contains (live_of tree.old.handles) it ≡ true }
 {
     let (start, calls) = asked.rest.split_once("; ").unwrap_or((asked.rest, ""));
@@ -71,7 +71,7 @@ pub fn with_opened(tree: &mut MemTree, it: Handle, asked: &Asked<'_>) -> Told
 }
 
 /// The answers of calls, between which `; ` stands, behind `ok`.
-fn along(alloc: Global, tree: &mut MemTree, it: Handle, calls: &str) -> Told
+fn along(alloc: Global, tree: &mut MemTree, it: Handle, calls: &str) -> Rendered
     requires { contains (live_of tree.old.handles) it ≡ true }
 {
     let mut text = String::from_str(alloc, "ok")?;

@@ -5,7 +5,7 @@ ghost use Rattle.wasi_tree.specs.MemState.{live_of};
 
 use crate::calls::{at_two, change};
 use std::alloc::{AllocError, Global};
-use test_support::{Asked, Told, done, told, unknown, word};
+use test_support::{Asked, Rendered, done, rendered, unknown, word};
 use wasi_host::{Handle, Host};
 use wasi_overlay::Overlay;
 use wasi_tree::MemTree;
@@ -13,7 +13,7 @@ use wasi_tree::MemTree;
 /// `WHAT CALL; CALL ..`: the answers of the calls, each made by a handle of node 0 of an overlay over the tree, and then
 /// what is asked of the overlay.
 #[tactic(auto, using(wasi_tree::proofs::SlotLemmas::slot_rules))]
-pub fn over(alloc: Global, base: &MemTree, rest: &str) -> Told {
+pub fn over(alloc: Global, base: &MemTree, rest: &str) -> Rendered {
     let (what, calls) = word(rest);
     let mut overlay = Overlay::new(alloc, base);
     let Ok(root) = overlay.handle(0) else {
@@ -21,7 +21,7 @@ pub fn over(alloc: Global, base: &MemTree, rest: &str) -> Told {
     };
     let mut text = String::new(alloc);
     push_answers(alloc, &mut overlay, root, calls, &mut text)?;
-    write!(text, "{}", told_of(alloc, &overlay, what)?)?;
+    write!(text, "{}", rendered_of(alloc, &overlay, what)?)?;
     Ok(text)
 }
 
@@ -42,7 +42,7 @@ fn push_answers(
 }
 
 /// `CALL ARGUMENTS`, by a handle of the directory of all names.
-fn by_root<H: Host>(host: &mut H, root: Handle, asked: &Asked<'_>) -> Told
+fn by_root<H: Host>(host: &mut H, root: Handle, asked: &Asked<'_>) -> Rendered
     requires { contains (H.live host.old) root ≡ true }
     ensures { H.live host.new ≡ H.live host.old }
 {
@@ -54,13 +54,13 @@ fn by_root<H: Host>(host: &mut H, root: Handle, asked: &Asked<'_>) -> Told
     done(asked.alloc, given)
 }
 
-fn told_of(alloc: Global, overlay: &Overlay<'_>, what: &str) -> Told {
+fn rendered_of(alloc: Global, overlay: &Overlay<'_>, what: &str) -> Rendered {
     match what {
-        "kept" => told(alloc, &overlay.kept(alloc)?),
-        "touched" => told(alloc, &overlay.touched(alloc)?),
-        "nodes" => told(alloc, &overlay.nodes(alloc)?),
-        "commit" => told(alloc, &overlay.commit(alloc)?.nodes(alloc)?),
-        "committed" => told(alloc, &overlay.commit(alloc)?.touched(alloc)?),
+        "kept" => rendered(alloc, &overlay.kept(alloc)?),
+        "touched" => rendered(alloc, &overlay.touched(alloc)?),
+        "nodes" => rendered(alloc, &overlay.nodes(alloc)?),
+        "commit" => rendered(alloc, &overlay.commit(alloc)?.nodes(alloc)?),
+        "committed" => rendered(alloc, &overlay.commit(alloc)?.touched(alloc)?),
         _ => unknown(alloc),
     }
 }

@@ -1,13 +1,13 @@
 //! Reports of outcomes.
 use std::alloc::{AllocError, Global};
-use test_support::{Told, list_of, number, word};
+use test_support::{Rendered, list_of, number, word};
 use wasi_guest::{Answer, Answers, Errno, Filestat, TrapKind, Value};
 use wasi_report::{Outcome, report};
 use wasi_tree::MemTree;
 
 /// `ANSWERS SHOWN STDOUT STDERR TOUCHED`, or nothing: the report of this outcome with the tree, without the newline at its
 /// end. Where nothing is given, the outcome is of no calls.
-pub fn told_report(alloc: Global, tree: &MemTree, rest: &str) -> Told {
+pub fn rendered_report(alloc: Global, tree: &MemTree, rest: &str) -> Rendered {
     let mut outcome = outcome_of(alloc)?;
     if !rest.is_empty() {
         fill(alloc, &mut outcome, rest)?;

@@ -5,7 +5,7 @@ ghost use Rattle.std.specs.FinSet.{contains};
 use crate::changes::changes_of;
 use crate::trees::{small_tree, walked_tree};
 use std::alloc::{AllocError, Global};
-use test_support::{Answering, Asked, Told, answered, coded, unknown};
+use test_support::{Answering, Asked, Rendered, answered, coded, unknown};
 use wasi_host::{Handle, Host, HostError, dir_options};
 use wasi_resolve::open;
 use wasi_tree::{MemTree, TreeError};
@@ -16,7 +16,7 @@ use wasi_tree_shared::Shared;
 pub struct WalkRows;
 
 impl Answering for WalkRows {
-    fn answer(&mut self, asked: &Asked<'_>) -> Told {
+    fn answer(&mut self, asked: &Asked<'_>) -> Rendered {
         match asked.what {
             "open" => walk_in(small_tree(asked.alloc), asked),
             "linked" => walk_in(walked_tree(asked.alloc), asked),
@@ -27,7 +27,7 @@ impl Answering for WalkRows {
 
 /// `PATH: CHANGES`: opens a path from node 0 of a tree that others change so.
 #[tactic(auto, using(wasi_tree::proofs::SlotLemmas::slot_rules))]
-fn walk_in(tree: Result<MemTree, TreeError>, asked: &Asked<'_>) -> Told {
+fn walk_in(tree: Result<MemTree, TreeError>, asked: &Asked<'_>) -> Rendered {
     let alloc = asked.alloc;
     let (path, list) = asked.rest.split_once(": ").unwrap_or((asked.rest, ""));
     let Ok(mut tree) = tree else {

@@ -1,6 +1,6 @@
 //! Sources and sinks in memory.
 use std::alloc::{AllocError, Global};
-use test_support::{list_of, number, told, unknown, word};
+use test_support::{list_of, number, rendered, unknown, word};
 use wasi_io::{BytesSink, BytesSource, Sink, Source};
 
 pub fn answer(alloc: Global, what: &str, rest: &str) -> Result<String, AllocError> {
@@ -28,7 +28,7 @@ fn reads(
         let answer = source.read(&mut buf);
         answers.push((answer, buf))?;
     }
-    told(alloc, &answers)
+    rendered(alloc, &answers)
 }
 
 // What the writes of pieces answer, between which commas stand, and what the sink took.
@@ -43,5 +43,5 @@ fn writes(
     for piece in pieces.split(',') {
         answers.push(sink.write(piece.as_bytes()))?;
     }
-    told(alloc, &(answers, str::from_utf8(sink.taken())))
+    rendered(alloc, &(answers, str::from_utf8(sink.taken())))
 }

@@ -2,7 +2,7 @@
 use bitflags::Flags;
 use std::alloc::{AllocError, Global};
 use std::fmt::Debug;
-use test_support::{number, told, unknown, word};
+use test_support::{number, rendered, unknown, word};
 use wasi_fs::{DescriptorFlags, OpenFlags, OpenMode, PathFlags};
 use wasi_guest::{
     EventRwFlags, FdFlags, FstFlags, LookupFlags, OFlags, RiFlags, Rights, SdFlags, SubclockFlags,
@@ -12,13 +12,13 @@ pub fn answer(alloc: Global, what: &str, rest: &str) -> Result<String, AllocErro
     let bits = number(rest);
     match what {
         "bits" => bits_answer(alloc, rest),
-        "fs" => told_fs(alloc, bits as usize),
-        "mode" => told_mode(alloc, bits as usize),
-        "rights" => told(alloc, &Rights::from_bits(bits).is_some()),
-        "guest" => told_guest(alloc, rest.parse::<u32>().unwrap_or(0)),
-        "socket" => told_socket(alloc, rest.parse::<u32>().unwrap_or(0)),
-        "poll" => told_poll(alloc, rest.parse::<u16>().unwrap_or(0)),
-        "makes" => told_makes(alloc, rest.parse::<u32>().unwrap_or(0)),
+        "fs" => rendered_fs(alloc, bits as usize),
+        "mode" => rendered_mode(alloc, bits as usize),
+        "rights" => rendered(alloc, &Rights::from_bits(bits).is_some()),
+        "guest" => rendered_guest(alloc, rest.parse::<u32>().unwrap_or(0)),
+        "socket" => rendered_socket(alloc, rest.parse::<u32>().unwrap_or(0)),
+        "poll" => rendered_poll(alloc, rest.parse::<u16>().unwrap_or(0)),
+        "makes" => rendered_makes(alloc, rest.parse::<u32>().unwrap_or(0)),
         _ => unknown(alloc),
     }
 }
@@ -26,71 +26,71 @@ pub fn answer(alloc: Global, what: &str, rest: &str) -> Result<String, AllocErro
 fn bits_answer(alloc: Global, rest: &str) -> Result<String, AllocError> {
     let (set, name) = word(rest);
     match set {
-        "PathFlags" => told_bits::<PathFlags>(alloc, name),
-        "OpenFlags" => told_bits::<OpenFlags>(alloc, name),
-        "DescriptorFlags" => told_bits::<DescriptorFlags>(alloc, name),
-        "LookupFlags" => told_bits::<LookupFlags>(alloc, name),
-        "OFlags" => told_bits::<OFlags>(alloc, name),
-        "FdFlags" => told_bits::<FdFlags>(alloc, name),
-        "FstFlags" => told_bits::<FstFlags>(alloc, name),
-        "SubclockFlags" => told_bits::<SubclockFlags>(alloc, name),
-        "EventRwFlags" => told_bits::<EventRwFlags>(alloc, name),
-        "RiFlags" => told_bits::<RiFlags>(alloc, name),
-        "SdFlags" => told_bits::<SdFlags>(alloc, name),
-        "Rights" => told_bits::<Rights>(alloc, name),
+        "PathFlags" => rendered_bits::<PathFlags>(alloc, name),
+        "OpenFlags" => rendered_bits::<OpenFlags>(alloc, name),
+        "DescriptorFlags" => rendered_bits::<DescriptorFlags>(alloc, name),
+        "LookupFlags" => rendered_bits::<LookupFlags>(alloc, name),
+        "OFlags" => rendered_bits::<OFlags>(alloc, name),
+        "FdFlags" => rendered_bits::<FdFlags>(alloc, name),
+        "FstFlags" => rendered_bits::<FstFlags>(alloc, name),
+        "SubclockFlags" => rendered_bits::<SubclockFlags>(alloc, name),
+        "EventRwFlags" => rendered_bits::<EventRwFlags>(alloc, name),
+        "RiFlags" => rendered_bits::<RiFlags>(alloc, name),
+        "SdFlags" => rendered_bits::<SdFlags>(alloc, name),
+        "Rights" => rendered_bits::<Rights>(alloc, name),
         _ => unknown(alloc),
     }
 }
 
-fn told_bits<F: Flags>(alloc: Global, name: &str) -> Result<String, AllocError>
+fn rendered_bits<F: Flags>(alloc: Global, name: &str) -> Result<String, AllocError>
 where
     F::Bits: Debug,
 {
-    told(alloc, &F::from_name(name).map(|flag| flag.bits()))
+    rendered(alloc, &F::from_name(name).map(|flag| flag.bits()))
 }
 
-fn told_fs(alloc: Global, bits: usize) -> Result<String, AllocError> {
+fn rendered_fs(alloc: Global, bits: usize) -> Result<String, AllocError> {
     let known = (
         PathFlags::from_bits(bits).is_some(),
         OpenFlags::from_bits(bits).is_some(),
         DescriptorFlags::from_bits(bits).is_some(),
     );
-    told(alloc, &known)
+    rendered(alloc, &known)
 }
 
-fn told_guest(alloc: Global, bits: u32) -> Result<String, AllocError> {
+fn rendered_guest(alloc: Global, bits: u32) -> Result<String, AllocError> {
     let known = (
         LookupFlags::from_bits(bits).is_some(),
         FstFlags::from_bits(bits).is_some(),
         FdFlags::from_bits(bits).is_some(),
     );
-    told(alloc, &known)
+    rendered(alloc, &known)
 }
 
-fn told_socket(alloc: Global, bits: u32) -> Result<String, AllocError> {
+fn rendered_socket(alloc: Global, bits: u32) -> Result<String, AllocError> {
     let known = (
         RiFlags::from_bits(bits).is_some(),
         SdFlags::from_bits(bits).is_some(),
     );
-    told(alloc, &known)
+    rendered(alloc, &known)
 }
 
-fn told_poll(alloc: Global, bits: u16) -> Result<String, AllocError> {
+fn rendered_poll(alloc: Global, bits: u16) -> Result<String, AllocError> {
     let known = (
         SubclockFlags::from_bits(bits).is_some(),
         EventRwFlags::from_bits(bits).is_some(),
     );
-    told(alloc, &known)
+    rendered(alloc, &known)
 }
 
-fn told_mode(alloc: Global, bits: usize) -> Result<String, AllocError> {
+fn rendered_mode(alloc: Global, bits: usize) -> Result<String, AllocError> {
     let mode = OpenMode::from_bits(bits);
     let got = mode.map(|m| (m.contains(OpenMode::READ), m.contains(OpenMode::WRITE)));
-    told(alloc, &got)
+    rendered(alloc, &got)
 }
 
-fn told_makes(alloc: Global, bits: u32) -> Result<String, AllocError> {
-    told(
+fn rendered_makes(alloc: Global, bits: u32) -> Result<String, AllocError> {
+    rendered(
         alloc,
         &OFlags::from_bits(bits).map(|set| set.contains(OFlags::CREAT)),
     )

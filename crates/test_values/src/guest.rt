@@ -1,6 +1,6 @@
 //! A guest's memory.
 use std::alloc::{AllocError, Global};
-use test_support::{list_of, told, unknown, word};
+use test_support::{list_of, rendered, unknown, word};
 use wasi_guest::GuestMemory;
 
 pub fn answer(alloc: Global, what: &str, rest: &str) -> Result<String, AllocError> {
@@ -12,10 +12,10 @@ pub fn answer(alloc: Global, what: &str, rest: &str) -> Result<String, AllocErro
     match what {
         "lent" => replaced(alloc, &bytes, ptr),
         "buffer" => first_buffer(alloc, &bytes, ptr, n),
-        "u32" => told(alloc, &memory_of(alloc, &bytes)?.read_u32(ptr)),
-        "text" => told_text(alloc, &bytes, ptr, n),
-        "iovec" => told(alloc, &memory_of(alloc, &bytes)?.read_iovec(ptr)),
-        "subscription" => told(alloc, &memory_of(alloc, &bytes)?.read_subscription(ptr)),
+        "u32" => rendered(alloc, &memory_of(alloc, &bytes)?.read_u32(ptr)),
+        "text" => rendered_text(alloc, &bytes, ptr, n),
+        "iovec" => rendered(alloc, &memory_of(alloc, &bytes)?.read_iovec(ptr)),
+        "subscription" => rendered(alloc, &memory_of(alloc, &bytes)?.read_subscription(ptr)),
         _ => unknown(alloc),
     }
 }
@@ -35,7 +35,7 @@ fn memory_of(alloc: Global, bytes: &[u8]) -> Result<GuestMemory, AllocError> {
 fn replaced(alloc: Global, bytes: &[u8], ptr: u32) -> Result<String, AllocError> {
     let mut memory = memory_of(alloc, bytes)?;
     let was = replace(&mut memory, ptr, 7);
-    told(alloc, &(was, memory.slice(0, memory.len())))
+    rendered(alloc, &(was, memory.slice(0, memory.len())))
 }
 
 fn replace(memory: &mut GuestMemory, ptr: u32, byte: u8) -> Option<u8> {
@@ -45,12 +45,12 @@ fn replace(memory: &mut GuestMemory, ptr: u32, byte: u8) -> Option<u8> {
     Some(was)
 }
 
-fn told_text(alloc: Global, bytes: &[u8], ptr: u32, n: u32) -> Result<String, AllocError> {
+fn rendered_text(alloc: Global, bytes: &[u8], ptr: u32, n: u32) -> Result<String, AllocError> {
     let memory = memory_of(alloc, bytes)?;
-    told(alloc, &memory.text(ptr, n))
+    rendered(alloc, &memory.text(ptr, n))
 }
 
 fn first_buffer(alloc: Global, bytes: &[u8], iovs: u32, n: u32) -> Result<String, AllocError> {
     let memory = memory_of(alloc, bytes)?;
-    told(alloc, &memory.first_buffer(iovs, n))
+    rendered(alloc, &memory.first_buffer(iovs, n))
 }

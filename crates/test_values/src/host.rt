@@ -1,6 +1,6 @@
 //! Times, numbers and options of a host.
 use std::alloc::{AllocError, Global};
-use test_support::{number, told, unknown, word};
+use test_support::{number, rendered, unknown, word};
 use wasi_host::{
     FollowSymlinks, Handle, OpenOptions, SystemTime, compute_oflags, dir_options, readdir_options,
     system_time_from_rustix, to_timespec,
@@ -10,10 +10,10 @@ pub fn answer(alloc: Global, what: &str, rest: &str) -> Result<String, AllocErro
     let (first, second) = word(rest);
     let time = system_time_from_rustix(first.parse::<i64>().unwrap_or(0), number(second));
     match what {
-        "time" => told(alloc, &time),
-        "epoch" => told(alloc, &SystemTime::EPOCH),
-        "timespec" => told(alloc, &to_timespec(time)),
-        "handle" => told(alloc, &Handle::from_number(number(first)).number()),
+        "time" => rendered(alloc, &time),
+        "epoch" => rendered(alloc, &SystemTime::EPOCH),
+        "timespec" => rendered(alloc, &to_timespec(time)),
+        "handle" => rendered(alloc, &Handle::from_number(number(first)).number()),
         _ => unknown(alloc),
     }
 }
@@ -21,8 +21,8 @@ pub fn answer(alloc: Global, what: &str, rest: &str) -> Result<String, AllocErro
 pub fn options_answer(alloc: Global, what: &str, rest: &str) -> Result<String, AllocError> {
     let options = options(rest);
     match what {
-        "oflags" => told(alloc, &compute_oflags(&options)),
-        "set" => told(
+        "oflags" => rendered(alloc, &compute_oflags(&options)),
+        "set" => rendered(
             alloc,
             &[
                 options.is_read(),
@@ -34,8 +34,8 @@ pub fn options_answer(alloc: Global, what: &str, rest: &str) -> Result<String, A
                 options.is_readdir_required(),
             ],
         ),
-        "follow" => told(alloc, &options.is_follow()),
-        "tests" => told(
+        "follow" => rendered(alloc, &options.is_follow()),
+        "tests" => rendered(
             alloc,
             &(
                 options.creates(),
@@ -46,7 +46,7 @@ pub fn options_answer(alloc: Global, what: &str, rest: &str) -> Result<String, A
         ),
         "access" => {
             let access = options.access();
-            told(alloc, &(access, access.can_read(), access.can_write()))
+            rendered(alloc, &(access, access.can_read(), access.can_write()))
         }
         _ => unknown(alloc),
     }

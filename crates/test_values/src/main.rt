@@ -12,14 +12,14 @@ mod paths;
 mod records;
 
 use std::process::ExitCode;
-use test_support::{Answering, Asked, Told, try_table, unknown, word};
+use test_support::{Answering, Asked, Rendered, try_table, unknown, word};
 
 /// What answers the lines.
 #[derive(Drop)]
 struct Values;
 
 impl Answering for Values {
-    fn answer(&mut self, asked: &Asked<'_>) -> Told {
+    fn answer(&mut self, asked: &Asked<'_>) -> Rendered {
         let alloc = asked.alloc;
         let (what, rest) = word(asked.rest);
         match asked.what {

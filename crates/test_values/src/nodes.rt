@@ -1,21 +1,21 @@
 //! What is said of nodes.
 use std::alloc::{AllocError, Global};
-use test_support::{number, time_of, told, unknown, word};
+use test_support::{number, time_of, rendered, unknown, word};
 use wasi_fs::{Descriptor, DescriptorStat, Dir, File, Flags, FsPerms, MetadataHashValue, OpenMode};
 use wasi_host::{FileType, Handle, Metadata, SystemTime};
 
 pub fn answer(alloc: Global, what: &str, rest: &str) -> Result<String, AllocError> {
     match what {
-        "kind" => told_kind(alloc, kind_of(rest)),
-        "metadata" => told_metadata(alloc, &metadata_of(rest)),
-        "stat" => told(alloc, &DescriptorStat::new(&metadata_of(rest))),
-        "hash" => told(alloc, &MetadataHashValue::new(&metadata_of(rest))),
-        "descriptor" => told_descriptor(alloc, &descriptor_of(rest)),
+        "kind" => rendered_kind(alloc, kind_of(rest)),
+        "metadata" => rendered_metadata(alloc, &metadata_of(rest)),
+        "stat" => rendered(alloc, &DescriptorStat::new(&metadata_of(rest))),
+        "hash" => rendered(alloc, &MetadataHashValue::new(&metadata_of(rest))),
+        "descriptor" => rendered_descriptor(alloc, &descriptor_of(rest)),
         _ => unknown(alloc),
     }
 }
 
-fn told_kind(alloc: Global, kind: FileType) -> Result<String, AllocError> {
+fn rendered_kind(alloc: Global, kind: FileType) -> Result<String, AllocError> {
     let answers = [
         kind.is_dir(),
         kind.is_file(),
@@ -23,10 +23,10 @@ fn told_kind(alloc: Global, kind: FileType) -> Result<String, AllocError> {
         kind.is_char_device(),
         kind.is_block_device(),
     ];
-    told(alloc, &answers)
+    rendered(alloc, &answers)
 }
 
-fn told_metadata(alloc: Global, metadata: &Metadata) -> Result<String, AllocError> {
+fn rendered_metadata(alloc: Global, metadata: &Metadata) -> Result<String, AllocError> {
     let times = (metadata.accessed(), metadata.modified(), metadata.created());
     let answers = (
         metadata.file_type(),
@@ -37,17 +37,17 @@ fn told_metadata(alloc: Global, metadata: &Metadata) -> Result<String, AllocErro
         metadata.ino(),
         metadata.nlink(),
     );
-    told(alloc, &answers)
+    rendered(alloc, &answers)
 }
 
-fn told_descriptor(alloc: Global, descriptor: &Descriptor) -> Result<String, AllocError> {
+fn rendered_descriptor(alloc: Global, descriptor: &Descriptor) -> Result<String, AllocError> {
     let file = descriptor
         .file()
         .map(|file| (file.file, file.perms, file.open_mode));
     let dir = descriptor
         .dir()
         .map(|dir| (dir.dir, dir.perms, dir.open_mode));
-    told(alloc, &(file, dir))
+    rendered(alloc, &(file, dir))
 }
 
 fn kind_of(word: &str) -> FileType {

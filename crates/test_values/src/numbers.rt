@@ -1,18 +1,18 @@
 //! Numbers of enumerations.
 use std::alloc::{AllocError, Global};
-use test_support::{told, unknown};
+use test_support::{rendered, unknown};
 use wasi_guest::{Advice, Clockid, Errno, Eventtype, Filetype, Whence, is_signal};
 
 pub fn answer(alloc: Global, what: &str, rest: &str) -> Result<String, AllocError> {
     let number = rest.parse::<u32>().unwrap_or(0);
     match what {
-        "whence" => told(alloc, &Whence::from_number(number)),
-        "clockid" => told(alloc, &Clockid::from_number(number)),
-        "advice" => told(alloc, &Advice::from_number(number)),
-        "eventtype" => told(alloc, &Eventtype::from_number(number)),
-        "signal" => told(alloc, &is_signal(number)),
-        "filetype" => told(alloc, &filetype_of(rest).number()),
-        "errno" => told(alloc, &errno_number(rest)),
+        "whence" => rendered(alloc, &Whence::from_number(number)),
+        "clockid" => rendered(alloc, &Clockid::from_number(number)),
+        "advice" => rendered(alloc, &Advice::from_number(number)),
+        "eventtype" => rendered(alloc, &Eventtype::from_number(number)),
+        "signal" => rendered(alloc, &is_signal(number)),
+        "filetype" => rendered(alloc, &filetype_of(rest).number()),
+        "errno" => rendered(alloc, &errno_number(rest)),
         _ => unknown(alloc),
     }
 }

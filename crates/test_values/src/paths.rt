@@ -1,6 +1,6 @@
 //! Texts of paths, and names.
 use std::alloc::{AllocError, Global};
-use test_support::{told, unknown, word};
+use test_support::{rendered, unknown, word};
 use wasi_paths::{
     Name, ends_with_parent, has_root, parts, path_has_trailing_dot, path_has_trailing_slash,
     path_requires_dir, split_parent, strip_dir_suffix,
@@ -9,7 +9,7 @@ use wasi_paths::{
 pub fn answer(alloc: Global, what: &str, rest: &str) -> Result<String, AllocError> {
     let (text, rest) = word(rest);
     match what {
-        "ends" => told(
+        "ends" => rendered(
             alloc,
             &(
                 path_has_trailing_slash(text),
@@ -17,10 +17,10 @@ pub fn answer(alloc: Global, what: &str, rest: &str) -> Result<String, AllocErro
                 path_requires_dir(text),
             ),
         ),
-        "stripped" => told(alloc, &strip_dir_suffix(text)),
+        "stripped" => rendered(alloc, &strip_dir_suffix(text)),
         "parts" => taken(alloc, text, rest),
-        "leads" => told(alloc, &(has_root(text), ends_with_parent(text))),
-        "split" => told(alloc, &split_parent(text)),
+        "leads" => rendered(alloc, &(has_root(text), ends_with_parent(text))),
+        "split" => rendered(alloc, &split_parent(text)),
         _ => unknown(alloc),
     }
 }
@@ -37,17 +37,17 @@ fn taken(alloc: Global, text: &str, turns: &str) -> Result<String, AllocError> {
         };
         taken.push(part)?;
     }
-    told(alloc, &taken)
+    rendered(alloc, &taken)
 }
 
 pub fn name_answer(alloc: Global, what: &str, rest: &str) -> Result<String, AllocError> {
     let (text, rest) = word(rest);
     let name = name_of(text);
     match what {
-        "plain" => told(alloc, &Name::plain(text).is_some()),
-        "entry" => told(alloc, &name.is_entry()),
-        "text" => told(alloc, &(name.as_str(), name.is_dot())),
-        "same" => told(alloc, &(name == name_of(rest))),
+        "plain" => rendered(alloc, &Name::plain(text).is_some()),
+        "entry" => rendered(alloc, &name.is_entry()),
+        "text" => rendered(alloc, &(name.as_str(), name.is_dot())),
+        "same" => rendered(alloc, &(name == name_of(rest))),
         _ => unknown(alloc),
     }
 }

@@ -1,12 +1,12 @@
 //! Records as they stand in a guest's memory.
 use std::alloc::{AllocError, Global};
-use test_support::{number, told, unknown, word};
+use test_support::{number, rendered, unknown, word};
 use wasi_guest::{Dirent, Event};
 
 pub fn answer(alloc: Global, what: &str, rest: &str) -> Result<String, AllocError> {
     match what {
-        "event" => told(alloc, &event_of(rest).to_bytes()),
-        "dirent" => told(alloc, &dirent_of(rest).to_bytes()),
+        "event" => rendered(alloc, &event_of(rest).to_bytes()),
+        "dirent" => rendered(alloc, &dirent_of(rest).to_bytes()),
         _ => unknown(alloc),
     }
 }

@@ -3,7 +3,7 @@ use Rattle.std.specs.Prelude.{◌≡◌, ℕ, ◌+◌, ◌%◌, ◌^◌, nat_le,
 use Rattle.wasi_call_table.specs.CallTable.{call_kinds, call_of_words}
 use Rattle.wasi_guest.specs.declared.call.Call.{Call}
 use Rattle.wasi_sandbox.specs.Shapes.{shape_of}
-use Rattle.wasi_sandbox.specs.declared.result_layout.Places.{Places}
+use Rattle.wasi_sandbox.specs.declared.result_layout.ResultAddresses.{ResultAddresses}
 use Rattle.wasi_sandbox.specs.declared.result_layout.Shape.{Shape}
 use Rattle.wasi_sandbox.specs.declared.result_layout.Shape.TheVariants as shapes
 use Rattle.wasi_c.specs.Held.{Held}
@@ -22,7 +22,7 @@ abbrev pub address_at : List ℕ → ℕ → ℕ
 address_at words place = slice_index words place % 2 ^ 32
 
 -- the addresses of a call's results, which the words from a place on are
-abbrev pub places_at : List ℕ → ℕ → Shape → Places
+abbrev pub places_at : List ℕ → ℕ → Shape → ResultAddresses
 places_at words place shapes.Nothing = record { first = 0; second = 0 }
 places_at words place shapes.TwoU32 = record { first = address_at words place; second = address_at words (place + 1) }
 places_at words place shapes.U32AndU16 = record { first = address_at words place; second = address_at words (place + 1) }

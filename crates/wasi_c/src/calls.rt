@@ -8,12 +8,12 @@ use crate::codes::NO_CALL;
 use crate::handle::SandboxHandle;
 use std::alloc::Global;
 use wasi_call_table::{call_kinds, call_of_words};
-use wasi_sandbox::{Call, Places, Shape};
+use wasi_sandbox::{Call, ResultAddresses, Shape};
 
 /// A call, and the addresses of its results.
 struct Request {
     call: Call,
-    to: Places,
+    to: ResultAddresses,
 }
 
 /// How many results a call has, each at an address of its own.
@@ -35,20 +35,20 @@ fn address(word: u64) -> u32
 }
 
 /// The addresses of a call's results, which the words from a place on are.
-fn places_at(words: &[u64], place: usize, shape: Shape) -> Places
+fn places_at(words: &[u64], place: usize, shape: Shape) -> ResultAddresses
     requires { place + result_count shape ≤ length words.now }
     ensures { result ≡ places_at words.now place shape }
 {
     match shape {
-        Shape::Nothing => Places {
+        Shape::Nothing => ResultAddresses {
             first: 0,
             second: 0,
         },
-        Shape::TwoU32 | Shape::U32AndU16 => Places {
+        Shape::TwoU32 | Shape::U32AndU16 => ResultAddresses {
             first: address(words[place]),
             second: address(words[place + 1]),
         },
-        _ => Places {
+        _ => ResultAddresses {
             first: address(words[place]),
             second: 0,
         },

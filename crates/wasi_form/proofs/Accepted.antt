@@ -15,7 +15,7 @@ use Rattle.wasi_host.specs.ValidTree.{AreLimits}
 use Rattle.wasi_host.specs.declared.limits.Limits.{Limits}
 use Rattle.wasi_tree.specs.WellFormed.{AreFit}
 use Rattle.wasi_tree.specs.WellFormedNodes.{NodeList}
-use Rattle.wasi_tree.specs.Given.{Given}
+use Rattle.wasi_tree.specs.NodeData.{NodeData}
 use Rattle.wasi_form.specs.declared.script.Session.{Session}
 use Rattle.wasi_form.specs.Plan.{Plan, GuestsPlan, planned}
 use Rattle.wasi_form.specs.ScriptForm.{script_of}
@@ -201,7 +201,7 @@ accepted {bytes} {p} is =
     }
 
 -- a guest that is accepted is one of the tree, none of the calls that its host makes is let fail, and it can be run alone
-pub record IsAcceptedGuest (nodes : List Given) (limits : Limits) (p : Plan) : Type 0 where
+pub record IsAcceptedGuest (nodes : List NodeData) (limits : Limits) (p : Plan) : Type 0 where
   pub nodes_are : p.nodes ≡ nodes
   pub limits_are : p.limits ≡ limits
   pub faults : p.faults ≡ []
@@ -232,7 +232,7 @@ guests_limits_kept p e =
       shown = leb-true _ _ shown.1;
     }
 
-accepted_guest : (nodes : List Given) (limits : Limits) (p : Plan) → AreLimits limits → AreFit limits nodes
+accepted_guest : (nodes : List NodeData) (limits : Limits) (p : Plan) → AreLimits limits → AreFit limits nodes
     → is_within_limits p ≡ true → IsGuestOn nodes limits p → IsAcceptedGuest nodes limits p
 accepted_guest nodes limits p are fit within is = record {
   nodes_are = is.nodes_are;
@@ -262,7 +262,7 @@ guests_accepted {bytes} {p} is =
     }
 
 -- of what each guest runs, what is known of it as a guest
-pub each_session : (nodes : List Given) (limits : Limits) (guests : List Session)
+pub each_session : (nodes : List NodeData) (limits : Limits) (guests : List Session)
     → All (IsAcceptedGuest nodes limits) (map (planned nodes limits) guests)
     → All (λ guest. IsAcceptedGuest nodes limits (planned nodes limits guest)) guests
 each_session nodes limits guests are k d l =

@@ -8,16 +8,16 @@ use Rattle.wasi_form.specs.Lists.{names}
 use Rattle.wasi_form.specs.ServicesForm.{service_keys, service_key}
 use Rattle.wasi_form.specs.declared.services.ServiceKey.{ServiceKey}
 use Rattle.wasi_form.specs.declared.services.ServiceKey.TheVariants.{Args, Env, Stdin, Wall, WallResolution, Monotonic, MonotonicResolution, Random}
-use Rattle.wasi_form.specs.MemoryForm.{memory_rows, memory_in}
-use Rattle.wasi_form.specs.ScriptForm.{part_rows, script_keys, found_in}
-use Rattle.wasi_form.specs.LimitsForm.{limits_rows, limits_in}
-use Rattle.wasi_form.specs.QuotaForm.{quota_rows, quota_in}
-use Rattle.wasi_form.specs.PreopenForm.{preopen_rows, preopen_in}
-use Rattle.wasi_form.specs.NodeForm.{node_rows, node_parts_in}
+use Rattle.wasi_form.specs.MemoryForm.{memory_members, memory_in}
+use Rattle.wasi_form.specs.ScriptForm.{part_members, script_keys, found_in}
+use Rattle.wasi_form.specs.LimitsForm.{limits_members, limits_in}
+use Rattle.wasi_form.specs.QuotaForm.{quota_members, quota_in}
+use Rattle.wasi_form.specs.PreopenForm.{preopen_members, preopen_in}
+use Rattle.wasi_form.specs.NodeForm.{node_members, node_parts_in}
 use Rattle.wasi_form.specs.FoundNodes.{with_node_member}
 use Rattle.wasi_form.specs.FoundParts.{with_service, with_beside, with_member, with_memory_member, with_limits_member, with_quota_member, with_preopen_member}
-use Rattle.wasi_form.proofs.Members.{all_keys-put, puts, stays, by_rows}
-use Rattle.wasi_form.proofs.ServiceMembers.{name_of, at_service, in_no_row}
+use Rattle.wasi_form.proofs.Members.{all_keys-put, puts, stays, by_members}
+use Rattle.wasi_form.proofs.ServiceMembers.{name_of, at_service, in_no_member}
 
 -- a key that is in none of two lists
 pub in_none : (keys more : List (List ℕ)) (k : List ℕ) → has_key keys k ≡ false → has_key more k ≡ false
@@ -51,18 +51,18 @@ at_no_key k d ms none =
     (rw (still (codes "args") refl, still (codes "env") refl, still (codes "stdin") refl, still (codes "wall") refl, still (codes "wall_res") refl, still (codes "mono") refl, still (codes "mono_res") refl, still (codes "random") refl) refl))
 
 -- a member at another key than those of the parts
-at_beside : (k : List ℕ) (d : Data) (ms : Members) (service : Option ServiceKey) → has_key (names part_rows) k ≡ false
+at_beside : (k : List ℕ) (d : Data) (ms : Members) (service : Option ServiceKey) → has_key (names part_members) k ≡ false
     → service_key k ≡ service → found_in (put k d ms) ≡ with_beside service d (found_in ms)
 unfolding script_keys service_key
 at_beside k d ms None none is =
-    at_no_key k d ms (in_none (names part_rows) (names service_keys) k none (in_no_row service_keys k is))
+    at_no_key k d ms (in_none (names part_members) (names service_keys) k none (in_no_member service_keys k is))
 at_beside k d ms (Some service) none is =
     at_service (λ key. found_in (put key d ms) ≡ with_service service d (found_in ms)) k service is (at_its_key service d ms)
 
 pub found_in-put : (k : List ℕ) (d : Data) (ms : Members) → found_in (put k d ms) ≡ with_member k d (found_in ms)
 unfolding with_member script_keys
 found_in-put k d ms =
-    by_rows (λ key. found_in (put key d ms)) part_rows (with_beside (service_key k)) d (found_in ms) k
+    by_members (λ key. found_in (put key d ms)) part_members (with_beside (service_key k)) d (found_in ms) k
     (simp puts, (simp puts, (simp puts, (simp puts, (simp puts, (simp puts, (simp puts, (simp puts, (simp puts, (simp puts, tt))))))))))
     (λ none. at_beside k d ms (service_key k) none refl)
 
@@ -70,42 +70,42 @@ pub memory_in-put : (k : List ℕ) (d : Data) (ms : Members)
     → memory_in (put k d ms) ≡ with_memory_member k d (memory_in ms)
 unfolding with_memory_member
 memory_in-put k d ms =
-    by_rows (λ key. memory_in (put key d ms)) memory_rows (λ _ all. record all { known = false }) d (memory_in ms) k
+    by_members (λ key. memory_in (put key d ms)) memory_members (λ _ all. record all { known = false }) d (memory_in ms) k
     (simp puts, (simp puts, tt))
-    (λ none. let still = stays (names memory_rows) k d ms none in
+    (λ none. let still = stays (names memory_members) k d ms none in
     rw (all_keys-put, none, still (codes "size") refl, still (codes "pieces") refl) refl)
 
 pub limits_in-put : (k : List ℕ) (d : Data) (ms : Members)
     → limits_in (put k d ms) ≡ with_limits_member k d (limits_in ms)
 unfolding with_limits_member
 limits_in-put k d ms =
-    by_rows (λ key. limits_in (put key d ms)) limits_rows (λ _ all. record all { known = false }) d (limits_in ms) k
+    by_members (λ key. limits_in (put key d ms)) limits_members (λ _ all. record all { known = false }) d (limits_in ms) k
     (simp puts, (simp puts, tt))
-    (λ none. let still = stays (names limits_rows) k d ms none in
+    (λ none. let still = stays (names limits_members) k d ms none in
     rw (all_keys-put, none, still (codes "nodes") refl, still (codes "links") refl) refl)
 
 pub quota_in-put : (k : List ℕ) (d : Data) (ms : Members) → quota_in (put k d ms) ≡ with_quota_member k d (quota_in ms)
 unfolding with_quota_member
 quota_in-put k d ms =
-    by_rows (λ key. quota_in (put key d ms)) quota_rows (λ _ all. record all { known = false }) d (quota_in ms) k
+    by_members (λ key. quota_in (put key d ms)) quota_members (λ _ all. record all { known = false }) d (quota_in ms) k
     (simp puts, (simp puts, tt))
-    (λ none. let still = stays (names quota_rows) k d ms none in
+    (λ none. let still = stays (names quota_members) k d ms none in
     rw (all_keys-put, none, still (codes "nodes") refl, still (codes "bytes") refl) refl)
 
 pub preopen_in-put : (k : List ℕ) (d : Data) (ms : Members)
     → preopen_in (put k d ms) ≡ with_preopen_member k d (preopen_in ms)
 unfolding with_preopen_member
 preopen_in-put k d ms =
-    by_rows (λ key. preopen_in (put key d ms)) preopen_rows (λ _ all. record all { known = false }) d (preopen_in ms) k
+    by_members (λ key. preopen_in (put key d ms)) preopen_members (λ _ all. record all { known = false }) d (preopen_in ms) k
     (simp puts, (simp puts, (simp puts, tt)))
-    (λ none. let still = stays (names preopen_rows) k d ms none in
+    (λ none. let still = stays (names preopen_members) k d ms none in
     rw (all_keys-put, none, still (codes "node") refl, still (codes "name") refl, still (codes "perms") refl) refl)
 
 pub node_parts_in-put : (k : List ℕ) (d : Data) (ms : Members)
     → node_parts_in (put k d ms) ≡ with_node_member k d (node_parts_in ms)
 unfolding with_node_member
 node_parts_in-put k d ms =
-    by_rows (λ key. node_parts_in (put key d ms)) node_rows (λ _ all. record all { known = false }) d (node_parts_in ms) k
+    by_members (λ key. node_parts_in (put key d ms)) node_members (λ _ all. record all { known = false }) d (node_parts_in ms) k
     (simp puts, (simp puts, (simp puts, (simp puts, (simp puts, tt)))))
-    (λ none. let still = stays (names node_rows) k d ms none in
+    (λ none. let still = stays (names node_members) k d ms none in
     rw (all_keys-put, none, still (codes "dir") refl, still (codes "file") refl, still (codes "link") refl, still (codes "bits") refl, still (codes "times") refl) refl)

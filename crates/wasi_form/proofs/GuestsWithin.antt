@@ -5,7 +5,7 @@ use Rattle.std.specs.List.{list_all}
 use Rattle.std.proofs.lemmas.List.Folds.{list_all-map}
 use Rattle.std.proofs.lemmas.List.Sums.{sum_by-cons}
 use Rattle.wasi_host.specs.declared.limits.Limits.{Limits}
-use Rattle.wasi_tree.specs.Given.{Given}
+use Rattle.wasi_tree.specs.NodeData.{NodeData}
 use Rattle.wasi_form.specs.declared.script.Session.{Session}
 use Rattle.wasi_form.specs.LimitsForm.{default_limits}
 use Rattle.wasi_form.specs.Plan.{planned, planned_guests}
@@ -19,7 +19,7 @@ sum_by-map size see (x ∷ xs) =
     ∙ sym (sum_by-cons (λ y. size (see y)) x xs)
 
 -- the limits of their tree are another matter
-pub by_sessions : (nodes : List Given) (limits : Limits) (guests : List Session) (schedule : List ℕ)
+pub by_sessions : (nodes : List NodeData) (limits : Limits) (guests : List Session) (schedule : List ℕ)
     → guests_within (planned_guests nodes limits guests schedule)
     ≡ (list_all (λ guest. is_within_limits (planned nodes default_limits guest)) guests
     && nat_le (sum_by (λ guest. guest.size) guests) most_memory

@@ -96,13 +96,13 @@ abbrev pub AreAdded : {S : Type 0} → (List ℕ → S) → Data → S → List 
 AreAdded make d found [] = Unit {0}
 AreAdded make d found (row ∷ rows) = (make row.0 ≡ row.1 d found) × AreAdded make d found rows
 
-pub by_rows : {S : Type 0} (make : List ℕ → S) (rows : List (List ℕ × (Data → S → S))) (other : Data → S → S) (d : Data)
+pub by_members : {S : Type 0} (make : List ℕ → S) (rows : List (List ℕ × (Data → S → S))) (other : Data → S → S) (d : Data)
     (found : S) (key : List ℕ) → AreAdded make d found rows
     → (has_key (names rows) key ≡ false → make key ≡ other d found)
     → make key ≡ unwrap_or (at_name rows key) other d found
-by_rows make [] other d found key added none = none refl
-by_rows make (row ∷ rows) other d found key added none =
+by_members make [] other d found key added none = none refl
+by_members make (row ∷ rows) other d found key added none =
     elim (cases_Bool (bytes_eq key row.0)) [
       | inl is ↦ rw is (at_key (λ k. make k ≡ row.1 d found) key row.0 is added.0)
-      | inr differ ↦ rw differ (by_rows make rows other d found key added.1 (λ absent. none (rw differ absent)))
+      | inr differ ↦ rw differ (by_members make rows other d found key added.1 (λ absent. none (rw differ absent)))
     ]

@@ -23,7 +23,7 @@ use Rattle.wasi_form.specs.Shapes.{u64_of, u32_of, two_in}
 use Rattle.wasi_form.specs.LimitsForm.{default_limits, is_limit, LimitsFound, limits_in, limits_found, limits_of}
 use Rattle.wasi_form.specs.QuotaForm.{is_bound, QuotaFound, quota_in, quota_found, quota_of}
 use Rattle.wasi_form.specs.ServicesForm.{wall_of, default_wall, default_wall_resolution, ServicesFound, services_in, services_found}
-use Rattle.wasi_tree.specs.Given.{Given}
+use Rattle.wasi_tree.specs.NodeData.{NodeData}
 use Rattle.wasi_form.specs.Plan.{Plan, GuestsPlan, on_tree}
 use Rattle.wasi_form.specs.ScriptForm.{ScriptFound, found_in, session_found, script_found, script_of}
 use Rattle.wasi_form.specs.GuestsForm.{guest_in, guest_found, guest_of, GuestsFound, guests_in, names_guests, guests_found, guests_of}
@@ -160,14 +160,14 @@ quota_found_in (Some d) = kept IsQuota (find.as_object d) _ (λ ms. quota_within
 -- ---- what is run
 
 -- what is run on this tree, of which all is within its range, and whose faults are such
-pub record IsSession (nodes : List Given) (limits : Limits) (Faults : List Fault → Type 0) (p : Plan) : Type 0 where
+pub record IsSession (nodes : List NodeData) (limits : Limits) (Faults : List Fault → Type 0) (p : Plan) : Type 0 where
   pub nodes_are : p.nodes ≡ nodes
   pub limits_are : p.limits ≡ limits
   pub faults : Faults p.faults
   pub quota : IsQuota p.quota
   pub services : AreWithin p.services
 
-session_in_range : (nodes : List Given) (limits : Limits) (Faults : List Fault → Type 0) (found : ScriptFound)
+session_in_range : (nodes : List NodeData) (limits : Limits) (Faults : List Fault → Type 0) (found : ScriptFound)
     → IfSome found.faults Faults → IfSome found.quota IsQuota → AreWallsFound found.services
     → IfSome (session_found nodes limits found) (IsSession nodes limits Faults)
 unfolding session_found
@@ -188,7 +188,7 @@ pub record IsInRange (p : Plan) : Type 0 where
   pub quota : IsQuota p.quota
   pub services : AreWithin p.services
 
-on_limits : (nodes : List Given) (limits : Limits) (p : Option Plan) → AreLimits limits
+on_limits : (nodes : List NodeData) (limits : Limits) (p : Option Plan) → AreLimits limits
     → IfSome p (IsSession nodes limits Rise) → IfSome p IsInRange
 on_limits nodes limits None are is = tt
 on_limits nodes limits (Some p) are is = record {
@@ -216,7 +216,7 @@ script_in_range d =
 -- ---- several guests
 
 -- a guest on this tree, of which all is within its range, and none of the calls that its host makes is let fail
-abbrev pub IsGuestOn : List Given → Limits → Plan → Type 0
+abbrev pub IsGuestOn : List NodeData → Limits → Plan → Type 0
 IsGuestOn nodes limits p = IsSession nodes limits (λ faults. faults ≡ []) p
 
 guest_in_range : (found : ScriptFound) → found.faults ≡ Some [] → IfSome found.quota IsQuota
@@ -251,7 +251,7 @@ pub record AreInRange (p : GuestsPlan) : Type 0 where
   pub schedule : All (λ guest. guest < length p.guests) p.schedule
 
 -- guests that are put on the tree of the whole
-put_on : (nodes : List Given) (limits : Limits) (guests : List Plan) → All (IsGuestOn [] default_limits) guests
+put_on : (nodes : List NodeData) (limits : Limits) (guests : List Plan) → All (IsGuestOn [] default_limits) guests
     → All (IsGuestOn nodes limits) (map (on_tree nodes limits) guests)
 put_on nodes limits guests are =
     All-map (IsGuestOn nodes limits) (on_tree nodes limits) guests
@@ -264,7 +264,7 @@ all_named : (count : ℕ) (schedule : List ℕ) → names_guests count schedule 
 all_named count schedule named k d l =
     ltb-true _ _ (AllPass-from_list_all (λ guest. nat_lt guest count) schedule named k d l)
 
-put_in_turns : (nodes : List Given) (limits : Limits) (guests : List Plan) (schedule : List ℕ) → AreLimits limits
+put_in_turns : (nodes : List NodeData) (limits : Limits) (guests : List Plan) (schedule : List ℕ) → AreLimits limits
     → All (IsGuestOn [] default_limits) guests → (test : Bool) → names_guests (length guests) schedule ≡ test
     → IfSome (only_if test >>= (λ _. Some (record {
       nodes = nodes;

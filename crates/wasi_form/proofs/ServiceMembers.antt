@@ -48,11 +48,11 @@ unfolding service_key
 at_service P key service is here = subst P (sym (named_in service_keys key service refl is)) here
 
 -- a key at which nothing is found is in no row
-pub in_no_row : {A : Type 0} (rows : List (List ℕ × A)) (key : List ℕ) → at_name rows key ≡ None
+pub in_no_member : {A : Type 0} (rows : List (List ℕ × A)) (key : List ℕ) → at_name rows key ≡ None
     → has_key (names rows) key ≡ false
-in_no_row [] key none = refl
-in_no_row (row ∷ rows) key none =
+in_no_member [] key none = refl
+in_no_member (row ∷ rows) key none =
     elim (cases_Bool (bytes_eq key row.0)) [
       | inl same ↦ let found : at_name (row ∷ rows) key ≡ Some row.1 = rw same refl in absurd (cc)
-      | inr other ↦ rw other (in_no_row rows key (rw other at none))
+      | inr other ↦ rw other (in_no_member rows key (rw other at none))
     ]

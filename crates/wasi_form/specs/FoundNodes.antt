@@ -8,11 +8,11 @@ use Rattle.std.specs.String.{string_bytes}
 use Rattle.std.specs.declared.alloc.Global.{Global}
 use Rattle.std.specs.declared.string.String.{String}
 use Rattle.serde_json.specs.Data.{Data, Members, no_members, member}
-use Rattle.wasi_tree.specs.Given.{pair_of}
+use Rattle.wasi_tree.specs.NodeData.{pair_of}
 use Rattle.wasi_form.specs.declared.nodes.EntryParts.{EntryParts}
 use Rattle.wasi_form.specs.declared.nodes.NodeParts.{NodeParts}
 use Rattle.wasi_form.specs.Lists.{same, ◌>>=◌, at_name}
-use Rattle.wasi_form.specs.NodeForm.{NodeFound, node_rows}
+use Rattle.wasi_form.specs.NodeForm.{NodeFound, node_members}
 use Rattle.wasi_form.specs.Shapes.{u64_of}
 
 -- ---- the names of a directory
@@ -53,7 +53,7 @@ all_numbered (pair ∷ pairs) = do
 
 -- with one more member, which counts for those before it at its key
 unfoldable pub with_node_member : List ℕ → Data → NodeFound → NodeFound
-with_node_member key d found = unwrap_or (at_name node_rows key) (λ _ all. record all { known = false }) d found
+with_node_member key d found = unwrap_or (at_name node_members key) (λ _ all. record all { known = false }) d found
 
 -- of the parts of a node that were read
 abbrev pub node_found_of : NodeParts → NodeFound

@@ -2,7 +2,7 @@
 use Rattle.std.specs.Prelude.{ℕ, List, false, map, Option, Some, None, option_map, unwrap_or}
 use Rattle.std.specs.String.{string_bytes}
 use Rattle.serde_json.specs.Data.{Data}
-use Rattle.wasi_tree.specs.Given.{given}
+use Rattle.wasi_tree.specs.NodeData.{node_data}
 use Rattle.wasi_guest.specs.Services.{env_pair}
 use Rattle.wasi_form.specs.declared.limits.LimitsParts.{LimitsParts}
 use Rattle.wasi_form.specs.declared.memory.MemoryParts.{MemoryParts}
@@ -14,13 +14,13 @@ use Rattle.wasi_form.specs.declared.services.ServiceKey.TheVariants.{Args, Env, 
 use Rattle.wasi_form.specs.declared.services.ServiceParts.{ServiceParts}
 use Rattle.wasi_form.specs.Lists.{same, at_name, list_seen}
 use Rattle.wasi_form.specs.Plan.{planned_preopen, planned_piece, planned_memory}
-use Rattle.wasi_form.specs.LimitsForm.{limits_rows, LimitsFound}
-use Rattle.wasi_form.specs.MemoryForm.{memory_rows, MemoryFound}
-use Rattle.wasi_form.specs.PreopenForm.{preopen_rows, PreopenFound}
-use Rattle.wasi_form.specs.QuotaForm.{quota_rows, QuotaFound}
+use Rattle.wasi_form.specs.LimitsForm.{limits_members, LimitsFound}
+use Rattle.wasi_form.specs.MemoryForm.{memory_members, MemoryFound}
+use Rattle.wasi_form.specs.PreopenForm.{preopen_members, PreopenFound}
+use Rattle.wasi_form.specs.QuotaForm.{quota_members, QuotaFound}
 use Rattle.wasi_form.specs.ServicesForm.{args_of, env_of, wall_of, service_key, ServicesFound}
 use Rattle.wasi_form.specs.Shapes.{u64_of, hex_of}
-use Rattle.wasi_form.specs.ScriptForm.{part_rows, ScriptFound}
+use Rattle.wasi_form.specs.ScriptForm.{part_members, ScriptFound}
 
 -- of the parts of the services that were read
 abbrev pub services_found_of : ServiceParts → ServicesFound
@@ -39,7 +39,7 @@ services_found_of parts = record {
 abbrev pub found_of : Parts → ScriptFound
 found_of parts = record {
   known = parts.known;
-  nodes = list_seen given parts.nodes;
+  nodes = list_seen node_data parts.nodes;
   preopens = list_seen planned_preopen parts.preopens;
   calls = list_seen same parts.calls;
   memory = option_map planned_memory parts.memory;
@@ -74,7 +74,7 @@ with_beside (Some service) d found = with_service service d found
 
 -- with one more member, which counts for those before it at its key
 unfoldable pub with_member : List ℕ → Data → ScriptFound → ScriptFound
-with_member key d found = unwrap_or (at_name part_rows key) (with_beside (service_key key)) d found
+with_member key d found = unwrap_or (at_name part_members key) (with_beside (service_key key)) d found
 
 -- of the parts of a memory that were read
 abbrev pub memory_found_of : MemoryParts → MemoryFound
@@ -83,7 +83,7 @@ memory_found_of parts =
 
 -- with one more member, which counts for those before it at its key
 unfoldable pub with_memory_member : List ℕ → Data → MemoryFound → MemoryFound
-with_memory_member key d found = unwrap_or (at_name memory_rows key) (λ _ all. record all { known = false }) d found
+with_memory_member key d found = unwrap_or (at_name memory_members key) (λ _ all. record all { known = false }) d found
 
 -- of the limits that were read
 abbrev pub limits_found_of : LimitsParts → LimitsFound
@@ -92,7 +92,7 @@ limits_found_of parts =
 
 -- with one more member, which counts for those before it at its key
 unfoldable pub with_limits_member : List ℕ → Data → LimitsFound → LimitsFound
-with_limits_member key d found = unwrap_or (at_name limits_rows key) (λ _ all. record all { known = false }) d found
+with_limits_member key d found = unwrap_or (at_name limits_members key) (λ _ all. record all { known = false }) d found
 
 -- of the quotas that were read
 abbrev pub quota_found_of : QuotaParts → QuotaFound
@@ -101,7 +101,7 @@ quota_found_of parts =
 
 -- with one more member, which counts for those before it at its key
 unfoldable pub with_quota_member : List ℕ → Data → QuotaFound → QuotaFound
-with_quota_member key d found = unwrap_or (at_name quota_rows key) (λ _ all. record all { known = false }) d found
+with_quota_member key d found = unwrap_or (at_name quota_members key) (λ _ all. record all { known = false }) d found
 
 -- of the directory that was read
 abbrev pub preopen_found_of : PreopenParts → PreopenFound
@@ -114,4 +114,4 @@ preopen_found_of parts = record {
 
 -- with one more member, which counts for those before it at its key
 unfoldable pub with_preopen_member : List ℕ → Data → PreopenFound → PreopenFound
-with_preopen_member key d found = unwrap_or (at_name preopen_rows key) (λ _ all. record all { known = false }) d found
+with_preopen_member key d found = unwrap_or (at_name preopen_members key) (λ _ all. record all { known = false }) d found

@@ -6,20 +6,20 @@ use Rattle.serde_json.specs.Data.{Data, Members}
 use Rattle.serde_json.specs.Find as find
 use Rattle.serde_json.specs.Find.{get_member}
 use Rattle.wasi_host.specs.declared.limits.Limits.{Limits}
-use Rattle.wasi_tree.specs.Given.{Given}
+use Rattle.wasi_tree.specs.NodeData.{NodeData}
 use Rattle.wasi_form.specs.Lists.{◌>>=◌, names, only_if, needed, optional, list_of}
 use Rattle.wasi_form.specs.Shapes.{u32_of, all_keys}
 use Rattle.wasi_form.specs.Plan.{Plan, GuestsPlan, on_tree}
 use Rattle.wasi_form.specs.NodeForm.{script_node}
 use Rattle.wasi_form.specs.LimitsForm.{default_limits, limits_of}
 use Rattle.wasi_form.specs.ServicesForm.{service_keys}
-use Rattle.wasi_form.specs.ScriptForm.{ScriptFound, guest_rows, found_in, session_found}
+use Rattle.wasi_form.specs.ScriptForm.{ScriptFound, guest_members, found_in, session_found}
 
 -- ---- a guest
 
 -- the keys of a guest: those of a script, but for the tree and its faults
 unfoldable pub guest_keys : List (List ℕ)
-guest_keys = names guest_rows ++ names service_keys
+guest_keys = names guest_members ++ names service_keys
 
 -- what was found of a script, with nothing of a tree and its faults
 abbrev pub without_tree : Bool → ScriptFound → ScriptFound
@@ -45,14 +45,14 @@ guest_of d = find.as_object d >>= (λ ms. guest_found (guest_in ms))
 -- is missing and has to be there.
 pub record GuestsFound : Type 0 where
   pub known : Bool
-  pub nodes : Option (List Given)
+  pub nodes : Option (List NodeData)
   pub limits : Option Limits
   pub guests : Option (List Plan)
   pub schedule : Option (List ℕ)
 
 -- the keys, each with what a member adds there
-abbrev pub guests_rows : List (List ℕ × (Data → GuestsFound → GuestsFound))
-guests_rows =
+abbrev pub guests_members : List (List ℕ × (Data → GuestsFound → GuestsFound))
+guests_members =
     (codes "nodes", λ d found. record found { nodes = list_of script_node d })
     ∷ (codes "limits", λ d found. record found { limits = limits_of d })
     ∷ (codes "guests", λ d found. record found { guests = list_of guest_of d })
@@ -62,7 +62,7 @@ guests_rows =
 -- of all members
 abbrev pub guests_in : Members → GuestsFound
 guests_in ms = record {
-  known = all_keys (names guests_rows) ms;
+  known = all_keys (names guests_members) ms;
   nodes = needed (list_of script_node) (get_member (codes "nodes") ms);
   limits = optional limits_of default_limits (get_member (codes "limits") ms);
   guests = needed (list_of guest_of) (get_member (codes "guests") ms);

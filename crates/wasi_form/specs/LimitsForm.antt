@@ -22,8 +22,8 @@ pub record LimitsFound : Type 0 where
   pub links : Option ℕ
 
 -- the keys, each with what a member adds there
-abbrev pub limits_rows : List (List ℕ × (Data → LimitsFound → LimitsFound))
-limits_rows =
+abbrev pub limits_members : List (List ℕ × (Data → LimitsFound → LimitsFound))
+limits_members =
     (codes "nodes", λ d found. record found { nodes = u64_of d })
     ∷ (codes "links", λ d found. record found { links = u64_of d })
     ∷ []
@@ -31,7 +31,7 @@ limits_rows =
 -- of all members
 abbrev pub limits_in : Members → LimitsFound
 limits_in ms = record {
-  known = all_keys (names limits_rows) ms;
+  known = all_keys (names limits_members) ms;
   nodes = needed u64_of (get_member (codes "nodes") ms);
   links = needed u64_of (get_member (codes "links") ms);
 }

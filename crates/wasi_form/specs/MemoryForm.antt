@@ -35,8 +35,8 @@ pub record MemoryFound : Type 0 where
   pub pieces : Option (List PlannedPiece)
 
 -- the keys, each with what a member adds there
-abbrev pub memory_rows : List (List ℕ × (Data → MemoryFound → MemoryFound))
-memory_rows =
+abbrev pub memory_members : List (List ℕ × (Data → MemoryFound → MemoryFound))
+memory_members =
     (codes "size", λ d found. record found { size = u32_of d })
     ∷ (codes "pieces", λ d found. record found { pieces = list_of piece_of d })
     ∷ []
@@ -44,7 +44,7 @@ memory_rows =
 -- of all members
 abbrev pub memory_in : Members → MemoryFound
 memory_in ms = record {
-  known = all_keys (names memory_rows) ms;
+  known = all_keys (names memory_members) ms;
   size = needed u32_of (get_member (codes "size") ms);
   pieces = needed (list_of piece_of) (get_member (codes "pieces") ms);
 }

@@ -8,7 +8,7 @@ use Rattle.serde_json.specs.Find.{get_member}
 use Rattle.wasi_host.specs.Time.{zero_time}
 use Rattle.wasi_host.specs.declared.bits.Bits.{Bits}
 use Rattle.wasi_host.specs.declared.system_time.SystemTime.{SystemTime}
-use Rattle.wasi_tree.specs.Given.{Given, GivenContent, file, directory, link, new_given}
+use Rattle.wasi_tree.specs.NodeData.{NodeData, ContentData, file, directory, link, new_node_data}
 use Rattle.wasi_form.specs.declared.nodes.NodeTimes.{NodeTimes}
 use Rattle.wasi_form.specs.Lists.{◌>>=◌, only_if, names, list_of, three_of}
 use Rattle.wasi_form.specs.Shapes.{u64_of, i64_of, hex_of, two_in, all_keys}
@@ -77,8 +77,8 @@ abbrev pub no_times : NodeTimes
 no_times = record { accessed = zero_time; modified = zero_time; created = zero_time }
 
 -- a node of this content, with its bits and times
-abbrev pub given_at : GivenContent → Bits → NodeTimes → Given
-given_at content bits times = record {
+abbrev pub node_data_at : ContentData → Bits → NodeTimes → NodeData
+node_data_at content bits times = record {
   content = content;
   bits = bits;
   atime = times.accessed;
@@ -97,8 +97,8 @@ pub record NodeFound : Type 0 where
   pub times : Option (Option NodeTimes)
 
 -- the keys, each with what a member adds there
-abbrev pub node_rows : List (List ℕ × (Data → NodeFound → NodeFound))
-node_rows =
+abbrev pub node_members : List (List ℕ × (Data → NodeFound → NodeFound))
+node_members =
     (codes "dir", λ d found. record found { dir = Some (script_entries d) })
     ∷ (codes "file", λ d found. record found { file = Some (hex_of d) })
     ∷ (codes "link", λ d found. record found { link = Some (find.as_str d) })
@@ -108,7 +108,7 @@ node_rows =
 
 -- exactly one of the three is there
 abbrev pub content_found : Option (Option (List (List ℕ × ℕ))) → Option (Option (List ℕ)) → Option (Option (List ℕ))
-    → Option GivenContent
+    → Option ContentData
 content_found None None None = None
 content_found (Some entries) None None = option_map directory entries
 content_found None (Some bytes) None = option_map file bytes
@@ -123,18 +123,18 @@ or_absent absent None = Some absent
 or_absent absent (Some part) = part
 
 -- the node of what was found: its bits and times are those of a new node where none are given
-unfoldable pub node_found : NodeFound → Option Given
+unfoldable pub node_found : NodeFound → Option NodeData
 node_found found = do
   _ ← only_if found.known
   content ← content_found found.dir found.file found.link
-  bits ← or_absent (new_given content).bits found.bits
+  bits ← or_absent (new_node_data content).bits found.bits
   times ← or_absent no_times found.times
-  Some (given_at content bits times)
+  Some (node_data_at content bits times)
 
 -- what stands at the keys, of all members
 abbrev pub node_parts_in : Members → NodeFound
 node_parts_in ms = record {
-  known = all_keys (names node_rows) ms;
+  known = all_keys (names node_members) ms;
   dir = option_map script_entries (get_member (codes "dir") ms);
   file = option_map hex_of (get_member (codes "file") ms);
   link = option_map find.as_str (get_member (codes "link") ms);
@@ -143,5 +143,5 @@ node_parts_in ms = record {
 }
 
 -- an object with one of `"dir"`, `"file"` and `"link"`, and no other keys than `"bits"` and `"times"`
-abbrev pub script_node : Data → Option Given
+abbrev pub script_node : Data → Option NodeData
 script_node d = find.as_object d >>= (λ ms. node_found (node_parts_in ms))

@@ -3,7 +3,7 @@ use Rattle.std.specs.Prelude.{ℕ, List, map}
 use Rattle.std.specs.String.{string_bytes}
 use Rattle.wasi_host.specs.declared.limits.Limits.{Limits}
 use Rattle.wasi_host_faults.specs.declared.fault.Fault.{Fault}
-use Rattle.wasi_tree.specs.Given.{Given, given}
+use Rattle.wasi_tree.specs.NodeData.{NodeData, node_data}
 use Rattle.wasi_fs.specs.declared.perms.FsPerms.{FsPerms}
 use Rattle.wasi_guest.specs.Services.{Handed, handed}
 use Rattle.wasi_guest.specs.declared.call.Call.{Call}
@@ -36,7 +36,7 @@ pub record PlannedMemory : Type 0 where
 
 -- a script as plain data
 pub record Plan : Type 0 where
-  pub nodes : List Given
+  pub nodes : List NodeData
   pub limits : Limits
   pub preopens : List PlannedPreopen
   pub size : ℕ
@@ -59,7 +59,7 @@ abbrev pub planned_memory : ScriptMemory → PlannedMemory
 planned_memory memory = record { size = memory.size; pieces = map planned_piece memory.pieces.items }
 
 -- what is run on a tree of these nodes, as plain data
-abbrev pub planned : List Given → Limits → Session → Plan
+abbrev pub planned : List NodeData → Limits → Session → Plan
 planned nodes limits s = record {
   nodes = nodes;
   limits = limits;
@@ -81,24 +81,24 @@ plan s = planned s.nodes.nodes s.nodes.limits s.session
 
 -- the same, before its nodes were tested
 abbrev pub drafted : Draft → Plan
-drafted s = planned (map given s.nodes.items) s.limits s.session
+drafted s = planned (map node_data s.nodes.items) s.limits s.session
 
 -- ---- several guests
 
 -- several guests that run in turns over one tree: each of them as a plan of a script with the nodes and the limits of this
 -- tree, and of each turn the place of its guest among them
 pub record GuestsPlan : Type 0 where
-  pub nodes : List Given
+  pub nodes : List NodeData
   pub limits : Limits
   pub guests : List Plan
   pub schedule : List ℕ
 
 -- a plan on another tree
-abbrev pub on_tree : List Given → Limits → Plan → Plan
+abbrev pub on_tree : List NodeData → Limits → Plan → Plan
 on_tree nodes limits p = record p { nodes = nodes; limits = limits }
 
 -- guests that are run in such turns on a tree of these nodes, as plain data
-abbrev pub planned_guests : List Given → Limits → List Session → List ℕ → GuestsPlan
+abbrev pub planned_guests : List NodeData → Limits → List Session → List ℕ → GuestsPlan
 planned_guests nodes limits guests schedule =
     record { nodes = nodes; limits = limits; guests = map (planned nodes limits) guests; schedule = schedule }
 
@@ -108,4 +108,4 @@ guests_plan s = planned_guests s.nodes.nodes s.nodes.limits s.guests.items s.sch
 
 -- the same, before its nodes were tested
 abbrev pub guests_drafted : GuestDraft → GuestsPlan
-guests_drafted s = planned_guests (map given s.nodes.items) s.limits s.guests.items s.schedule.items
+guests_drafted s = planned_guests (map node_data s.nodes.items) s.limits s.guests.items s.schedule.items

@@ -29,8 +29,8 @@ pub record PreopenFound : Type 0 where
   pub perms : Option FsPerms
 
 -- the keys, each with what a member adds there
-abbrev pub preopen_rows : List (List ℕ × (Data → PreopenFound → PreopenFound))
-preopen_rows =
+abbrev pub preopen_members : List (List ℕ × (Data → PreopenFound → PreopenFound))
+preopen_members =
     (codes "node", λ d found. record found { node = u64_of d })
     ∷ (codes "name", λ d found. record found { name = find.as_str d })
     ∷ (codes "perms", λ d found. record found { perms = perms_named d })
@@ -39,7 +39,7 @@ preopen_rows =
 -- of all members
 abbrev pub preopen_in : Members → PreopenFound
 preopen_in ms = record {
-  known = all_keys (names preopen_rows) ms;
+  known = all_keys (names preopen_members) ms;
   node = needed u64_of (get_member (codes "node") ms);
   name = needed find.as_str (get_member (codes "name") ms);
   perms = needed perms_named (get_member (codes "perms") ms);

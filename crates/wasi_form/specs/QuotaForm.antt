@@ -18,8 +18,8 @@ pub record QuotaFound : Type 0 where
   pub bytes : Option ℕ
 
 -- the keys, each with what a member adds there
-abbrev pub quota_rows : List (List ℕ × (Data → QuotaFound → QuotaFound))
-quota_rows =
+abbrev pub quota_members : List (List ℕ × (Data → QuotaFound → QuotaFound))
+quota_members =
     (codes "nodes", λ d found. record found { nodes = u64_of d })
     ∷ (codes "bytes", λ d found. record found { bytes = u64_of d })
     ∷ []
@@ -27,7 +27,7 @@ quota_rows =
 -- of all members
 abbrev pub quota_in : Members → QuotaFound
 quota_in ms = record {
-  known = all_keys (names quota_rows) ms;
+  known = all_keys (names quota_members) ms;
   nodes = needed u64_of (get_member (codes "nodes") ms);
   bytes = needed u64_of (get_member (codes "bytes") ms);
 }

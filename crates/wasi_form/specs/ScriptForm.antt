@@ -7,7 +7,7 @@ use Rattle.wasi_guest.specs.Quotas.{no_quota}
 use Rattle.wasi_guest.specs.declared.call.Call.{Call}
 use Rattle.wasi_guest.specs.declared.quota.Quota.{Quota}
 use Rattle.wasi_host.specs.declared.limits.Limits.{Limits}
-use Rattle.wasi_tree.specs.Given.{Given}
+use Rattle.wasi_tree.specs.NodeData.{NodeData}
 use Rattle.wasi_host_faults.specs.declared.fault.Fault.{Fault}
 use Rattle.wasi_form.specs.declared.script.Shown.{Shown}
 use Rattle.wasi_form.specs.Lists.{◌>>=◌, names, only_if, needed, optional, list_of}
@@ -34,7 +34,7 @@ default_table = 1024
 -- missing and has to be there.
 pub record ScriptFound : Type 0 where
   pub known : Bool
-  pub nodes : Option (List Given)
+  pub nodes : Option (List NodeData)
   pub preopens : Option (List PlannedPreopen)
   pub calls : Option (List Call)
   pub memory : Option PlannedMemory
@@ -48,16 +48,16 @@ pub record ScriptFound : Type 0 where
 
 -- The keys of the tree and of its faults, which a script has and a guest of several hasn't, each with what a member adds
 -- there.
-abbrev pub whole_rows : List (List ℕ × (Data → ScriptFound → ScriptFound))
-whole_rows =
+abbrev pub whole_members : List (List ℕ × (Data → ScriptFound → ScriptFound))
+whole_members =
     (codes "nodes", λ d found. record found { nodes = list_of script_node d })
     ∷ (codes "limits", λ d found. record found { limits = limits_of d })
     ∷ (codes "faults", λ d found. record found { faults = faults_of d })
     ∷ []
 
 -- the keys of a guest's own parts, each with what a member adds there
-abbrev pub guest_rows : List (List ℕ × (Data → ScriptFound → ScriptFound))
-guest_rows =
+abbrev pub guest_members : List (List ℕ × (Data → ScriptFound → ScriptFound))
+guest_members =
     (codes "preopens", λ d found. record found { preopens = list_of preopen_of d })
     ∷ (codes "calls", λ d found. record found { calls = list_of call_of d })
     ∷ (codes "memory", λ d found. record found { memory = memory_of d })
@@ -68,11 +68,11 @@ guest_rows =
     ∷ []
 
 -- the keys of a script's own parts, each with what a member adds there
-abbrev pub part_rows : List (List ℕ × (Data → ScriptFound → ScriptFound))
-part_rows = whole_rows ++ guest_rows
+abbrev pub part_members : List (List ℕ × (Data → ScriptFound → ScriptFound))
+part_members = whole_members ++ guest_members
 
 unfoldable pub script_keys : List (List ℕ)
-script_keys = names part_rows ++ names service_keys
+script_keys = names part_members ++ names service_keys
 
 -- of all members
 abbrev pub found_in : Members → ScriptFound
@@ -92,7 +92,7 @@ found_in ms = record {
 }
 
 -- what is run on a tree of these nodes, of what was found
-unfoldable pub session_found : List Given → Limits → ScriptFound → Option Plan
+unfoldable pub session_found : List NodeData → Limits → ScriptFound → Option Plan
 session_found nodes limits found = do
   preopens ← found.preopens
   calls ← found.calls

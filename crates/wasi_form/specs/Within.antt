@@ -1,8 +1,8 @@
 -- Which plans are within the limits.
 use Rattle.std.specs.Prelude.{ℕ, ◌+◌, List, length, slice_get, sum_by, Bool, false, ◌&&◌, nat_le, Option, Some, None}
 use Rattle.std.specs.List.{list_all}
-use Rattle.wasi_tree.specs.Given.{Given}
-use Rattle.wasi_tree.specs.GivenTests.{is_dir_content}
+use Rattle.wasi_tree.specs.NodeData.{NodeData}
+use Rattle.wasi_tree.specs.NodeDataTests.{is_dir_content}
 use Rattle.wasi_form.specs.declared.script.Shown.{Shown}
 use Rattle.wasi_form.specs.Plan.{PlannedPreopen, PlannedPiece, Plan, GuestsPlan}
 
@@ -11,14 +11,14 @@ abbrev pub most_memory : ℕ
 most_memory = 16777216
 
 -- there is such a node, and it is a directory
-abbrev pub is_directory_given : Option Given → Bool
-is_directory_given None = false
-is_directory_given (Some node) = is_dir_content node.content
+abbrev pub is_directory_data : Option NodeData → Bool
+is_directory_data None = false
+is_directory_data (Some node) = is_dir_content node.content
 
 -- the node of each is a directory of the list
-abbrev pub are_preopens_directories : List Given → List PlannedPreopen → Bool
+abbrev pub are_preopens_directories : List NodeData → List PlannedPreopen → Bool
 are_preopens_directories nodes preopens =
-    list_all (λ preopen. is_directory_given (slice_get nodes preopen.node)) preopens
+    list_all (λ preopen. is_directory_data (slice_get nodes preopen.node)) preopens
 
 -- in a memory of this size
 abbrev pub is_piece_within : ℕ → PlannedPiece → Bool

@@ -4,7 +4,7 @@ ghost use Rattle.wasi_form.specs.FoundGuests.{guests_found_of};
 ghost use Rattle.wasi_form.specs.GuestsForm as specs;
 ghost use Rattle.wasi_form.specs.Lists.{names, same};
 ghost use Rattle.wasi_form.specs.Plan.{guests_drafted};
-ghost use Rattle.wasi_form.specs.ScriptForm.{whole_rows};
+ghost use Rattle.wasi_form.specs.ScriptForm.{whole_members};
 ghost use Rattle.wasi_form.specs.Shapes.{has_key};
 
 use crate::atoms::next_u32;
@@ -28,7 +28,7 @@ struct GuestParts {
 
 // Whether a key of a script is one of its tree or the tree's faults, which are no part of a guest.
 fn is_of_whole(key: &str) -> bool
-    ensures { result ≡ has_key (names whole_rows) key.now }
+    ensures { result ≡ has_key (names whole_members) key.now }
 {
     key == "nodes" || key == "limits" || key == "faults"
 }

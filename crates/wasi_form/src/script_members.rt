@@ -10,7 +10,7 @@ ghost use Rattle.wasi_form.specs.ScriptForm.{session_found, script_found};
 ghost use Rattle.wasi_form.specs.ServicesForm.{service_key};
 ghost use Rattle.wasi_form.specs.Tokens.{next_value};
 ghost use Rattle.wasi_host.specs.declared.limits.Limits.{Limits as TreeLimits};
-ghost use Rattle.wasi_tree.specs.Given.{Given};
+ghost use Rattle.wasi_tree.specs.NodeData.{NodeData};
 
 use crate::atoms::{next_u32, next_u64};
 use crate::faults::faults;
@@ -162,7 +162,7 @@ impl Parts {
     // What is run, of these parts. `None` where one of them is of another shape.
     #[tactic(auto, using(crate::proofs::Items::map_same), unfolding(crate::specs::ScriptForm::session_found))]
     fn session(self) -> Option<Session>
-        ensures { (nodes : List Given) (limits : TreeLimits)
+        ensures { (nodes : List NodeData) (limits : TreeLimits)
             → option_map (planned nodes limits) result ≡ session_found nodes limits (found_of self) }
     {
         let ScriptMemory { size, pieces } = self.memory?;

@@ -4,7 +4,7 @@ ghost use Rattle.serde_json.specs.Read.{read as read_text};
 ghost use Rattle.wasi_host_faults.specs.Faults.{numbers_rise};
 ghost use Rattle.wasi_guest.specs.Quotas.{IsQuota};
 ghost use Rattle.wasi_guest.specs.Services.{handed, AreWithin};
-ghost use Rattle.wasi_tree.specs.Given.{given};
+ghost use Rattle.wasi_tree.specs.NodeData.{node_data};
 ghost use Rattle.wasi_form.specs.IsRead.{IsRead};
 ghost use Rattle.wasi_form.specs.Plan.{Plan, GuestsPlan};
 ghost use Rattle.wasi_form.specs.declared.script_reader.Refusal.{Refusal};
@@ -157,7 +157,7 @@ fn fit_nodes(
     nodes: Vec<NewNode>,
     limits: Limits,
 ) -> Result<WellFormedNodes, ScriptError>
-    ensures { IsTestOf (record { nodes = map given nodes.items; limits = limits }) result }
+    ensures { IsTestOf (record { nodes = map node_data nodes.items; limits = limits }) result }
 {
     match WellFormedNodes::new(alloc, nodes, limits) {
         Ok(nodes) => Ok(nodes),

@@ -1,7 +1,7 @@
 //! Which scripts are within the limits.
 ghost use Rattle.std.specs.Prelude.{◌≡◌, ◌+◌, ◌<◌, ◌&&◌, [], length, map, slice_get, sum_by, nat_le, MatchOption};
 ghost use Rattle.std.specs.List.{list_all};
-ghost use Rattle.wasi_tree.specs.Given.{given};
+ghost use Rattle.wasi_tree.specs.NodeData.{node_data};
 ghost use Rattle.wasi_form.specs.LimitsForm.{default_limits};
 ghost use Rattle.wasi_form.specs.Plan.{plan, planned, planned_preopen, planned_piece, guests_plan};
 ghost use Rattle.wasi_form.specs.Within as specs;
@@ -17,7 +17,7 @@ const MOST_TABLE: u32 = 65_536;
 const MOST_MEMORY: u32 = 16_777_216;
 
 fn is_directory(nodes: &Vec<NewNode>, node: u64) -> bool
-    ensures { result ≡ specs.is_directory_given (slice_get (map given nodes.now.items) node) }
+    ensures { result ≡ specs.is_directory_data (slice_get (map node_data nodes.now.items) node) }
 {
     match nodes.get(node as usize) {
         Some(node) => matches!(node.content, NewContent::Dir(_)),
@@ -26,8 +26,8 @@ fn is_directory(nodes: &Vec<NewNode>, node: u64) -> bool
 }
 
 fn each_preopen_is_directory(nodes: &Vec<NewNode>, preopens: &[ScriptPreopen]) -> bool
-    ensures { result ≡ list_all (λ preopen. specs.is_directory_given
-        (slice_get (map given nodes.now.items) (planned_preopen preopen).node)) preopens.now }
+    ensures { result ≡ list_all (λ preopen. specs.is_directory_data
+        (slice_get (map node_data nodes.now.items) (planned_preopen preopen).node)) preopens.now }
 {
     preopens
         .iter()
@@ -35,7 +35,7 @@ fn each_preopen_is_directory(nodes: &Vec<NewNode>, preopens: &[ScriptPreopen]) -
 }
 
 fn are_preopens_directories(nodes: &Vec<NewNode>, preopens: &[ScriptPreopen]) -> bool
-    ensures { result ≡ specs.are_preopens_directories (map given nodes.now.items) (map planned_preopen preopens.now) }
+    ensures { result ≡ specs.are_preopens_directories (map node_data nodes.now.items) (map planned_preopen preopens.now) }
 {
     each_preopen_is_directory(nodes, preopens)
 }
@@ -116,7 +116,7 @@ pub fn is_session_within(directories: bool, session: &Session) -> bool
 // Whether what is run on a tree of these nodes is within the limits.
 #[tactic(auto, unfolding(crate::specs::Within::is_within_limits))]
 fn is_within_on(nodes: &Vec<NewNode>, session: &Session) -> bool
-    ensures { result ≡ specs.is_within_limits (planned (map given nodes.now.items) default_limits session.now) }
+    ensures { result ≡ specs.is_within_limits (planned (map node_data nodes.now.items) default_limits session.now) }
 {
     let directories = are_preopens_directories(nodes, session.preopens.as_slice());
     is_session_within(directories, session)
@@ -132,7 +132,7 @@ pub fn is_within_limits(script: &Script) -> bool
 
 fn each_is_within(nodes: &Vec<NewNode>, guests: &[Session]) -> bool
     ensures { result ≡ list_all (λ guest. specs.is_within_limits
-        (planned (map given nodes.now.items) default_limits guest)) guests.now }
+        (planned (map node_data nodes.now.items) default_limits guest)) guests.now }
 {
     guests.iter().all(|guest| is_within_on(nodes, guest))
 }
@@ -168,7 +168,7 @@ fn are_shown_little(guests: &[Session]) -> bool
 // Whether what each guest runs on a tree of these nodes is within the limits, and together they are no larger than one may be.
 fn are_within_on(nodes: &Vec<NewNode>, guests: &[Session]) -> bool
     ensures { result ≡ (list_all (λ guest. specs.is_within_limits
-        (planned (map given nodes.now.items) default_limits guest)) guests.now
+        (planned (map node_data nodes.now.items) default_limits guest)) guests.now
         && nat_le (sum_by (λ guest. guest.size) guests.now) most_memory
         && nat_le (sum_by (λ guest. shown_bytes guest.show.items) guests.now) most_memory) }
 {

@@ -8,7 +8,7 @@ use Rattle.wasi_host.specs.Tree.{Tree, Nodes, node_at}
 use Rattle.wasi_host.specs.ValidTree.{Reached, root, held}
 use Rattle.wasi_host.specs.Answer.{kind_of, metadata_of, stat_answer}
 use Rattle.wasi_host.specs.Refusal.{refusal}
-use Rattle.wasi_host.specs.HostLaws.{World, Handles, MeansErr}
+use Rattle.wasi_host.specs.HostLaws.{HostModel, Handles, MeansErr}
 use Rattle.wasi_host.specs.declared.errors.ErrorCode.{ErrorCode}
 use Rattle.wasi_host.specs.declared.errors.ErrorCode.TheVariants.{Io}
 use Rattle.wasi_host.specs.declared.errors.HostError.{HostError}
@@ -71,14 +71,14 @@ compare_means m n t k Memory means = tt
 compare_means m n t k (Code Io) means = tt
 compare_means m n t k (Code code) means = absurd (stat_given t k means)
 
-looks_still : {live : Handles} {w v : World} {n : ℕ} (r : Result Metadata HostError)
+looks_still : {live : Handles} {w v : HostModel} {n : ℕ} (r : Result Metadata HostError)
     → Resolved live w v (stats w.tree n) (λ m. m) r → v.tree ≡ w.tree
 looks_still (Ok metadata) did = did.tree
 looks_still (Err Memory) did = did.tree
 looks_still (Err (Code Io)) did = elim did.tree [ inl same ↦ same | inr stepped ↦ stepped.1 ]
 looks_still (Err (Code code)) did = did.tree
 
-touches_still : {live : Handles} {w v : World} {n : ℕ} (r : Result Metadata HostError)
+touches_still : {live : Handles} {w v : HostModel} {n : ℕ} (r : Result Metadata HostError)
     → Resolved live w v (stats w.tree n) (λ m. m) r
     → Touches w.tree w.tree (n ∷ []) (if is_ok r then n ∷ [] else []) w.touched v.touched
 touches_still {w = w} {v = v} {n = n} r did =
@@ -86,7 +86,7 @@ touches_still {w = w} {v = v} {n = n} r did =
     (looks_still r did) did.touched
 
 -- the first look failed
-pub compares_here : {live : Handles} {w v : World} {m : ℕ} (n : ℕ) (e : HostError)
+pub compares_here : {live : Handles} {w v : HostModel} {m : ℕ} (n : ℕ) (e : HostError)
     → Resolved {A = Metadata} live w v (stats w.tree m) (λ m. m) (Err e) → Compares live w v m n (Err e)
 compares_here {w = w} {v = v} {m = m} n e did = record {
   answer = compare_means m n w.tree m e did.answer;
@@ -97,7 +97,7 @@ compares_here {w = w} {v = v} {m = m} n e did = record {
   keeps = did.keeps;
 }
 
-module _ {live mid : Handles} {w u v : World} {m n next : ℕ} {here : Metadata} (same : mid ≡ live) (at : next ≡ n)
+module _ {live mid : Handles} {w u v : HostModel} {m n next : ℕ} {here : Metadata} (same : mid ≡ live) (at : next ≡ n)
     (first : Resolved live w u (stats w.tree m) (λ m. m) (Ok here)) where
   -- the second look, at the tree of the first
   second_at : {r : Result Metadata HostError} → Resolved mid u v (stats u.tree next) (λ m. m) r

@@ -13,7 +13,7 @@ use Rattle.wasi_host.specs.Refusal.{refusal}
 use Rattle.wasi_host.specs.Answer.{unless, reached, access_of}
 use Rattle.wasi_host.specs.Step.{with_nodes}
 use Rattle.wasi_host.specs.Steps.{◌>>=◌}
-use Rattle.wasi_host.specs.HostLaws.{World, Handles, Told, MeansErr, AfterErr, hosted, answered}
+use Rattle.wasi_host.specs.HostLaws.{HostModel, Handles, RefinesCall, MeansErr, AfterErr, hosted, answered}
 use Rattle.wasi_host.specs.declared.errors.ErrorCode.{ErrorCode}
 use Rattle.wasi_host.specs.declared.errors.ErrorCode.TheVariants.{Io, NotDirectory}
 use Rattle.wasi_host.specs.declared.errors.HostError.{HostError}
@@ -27,7 +27,7 @@ use Rattle.wasi_resolve.specs.Meanings.{follows, ends_by, opened_node, opens_at}
 use Rattle.wasi_resolve.specs.Paths.{Opening, opening, opened_by, step_of, opened, after_open}
 use Rattle.wasi_resolve.specs.PathRequest.{OpenPath, Opened, opened_at, answer_at, as_asked, meant_by}
 use Rattle.wasi_resolve.specs.Resolved.{Meant, TreeAfter, Resolved}
-use Rattle.wasi_resolve.specs.WalkSteps.{WorldStays}
+use Rattle.wasi_resolve.specs.WalkSteps.{ModelStays}
 use Rattle.wasi_resolve.proofs.Calls.{means_then, still_live, same_live, close_stays}
 use Rattle.wasi_resolve.proofs.Parenting.{opening_leaves}
 use Rattle.wasi_resolve.proofs.Requests.{reached_closed, path_given_seen}
@@ -136,7 +136,7 @@ module _ (t : Tree) (s : ℕ) (text : List ℕ) (how : OpenHow) (perms : FsPerms
 
 -- ---- the open was refused, or failed
 
-pub not_opened : {live : Handles} {w v : World} {s : ℕ} (text : List ℕ) (how : OpenHow) (perms : FsPerms)
+pub not_opened : {live : Handles} {w v : HostModel} {s : ℕ} (text : List ℕ) (how : OpenHow) (perms : FsPerms)
     (e : HostError)
     → may_open how perms ≡ None
     → Resolved {A = ℕ} live w v (opens_at w.tree s text (options_of how)) v.held (Err e)
@@ -177,13 +177,13 @@ not_opened {live} {w} {v} {s} text how perms e may did = record {
 -- ---- the path was opened
 
 -- and so it is, whatever was asked of the new handle since
-record HasOpened (live : Handles) (w v : World) (s : ℕ) (text : List ℕ) (how : OpenHow) (found : Opened) : Type 0 where
+record HasOpened (live : Handles) (w v : HostModel) (s : ℕ) (text : List ℕ) (how : OpenHow) (found : Opened) : Type 0 where
   pub reply : found_at w.tree s text how ≡ Ok found
   pub tree : v.tree ≡ stepped w.tree s text how
   pub touched : Touches w.tree v.tree (s ∷ []) (meant_by w.tree (opens s text how)).ends w.touched v.touched
   pub keeps : (h : ℕ) → contains live h ≡ true → v.held h ≡ w.held h
 
-has_opened : {live : Handles} {w u : World} {s : ℕ} {text : List ℕ} {h : ℕ} (how : OpenHow)
+has_opened : {live : Handles} {w u : HostModel} {s : ℕ} {text : List ℕ} {h : ℕ} (how : OpenHow)
     → Resolved {A = ℕ} live w u (opens_at w.tree s text (options_of how)) u.held (Ok h)
     → HasOpened live w u s text how (opened_in u.tree (u.held h))
 has_opened {live} {w} {u} {s} {text} {h} how did = record {
@@ -209,10 +209,10 @@ touches_then {t} {t'} {roots} {ends} {a} {b} {c} ns first with near =
       ends = All-weaker _ (λ n. contains c n ≡ true) (λ n is. second.stays n is) ends first.ends;
     }
 
-module _ {live : Handles} {w u v : World} {s : ℕ} {text : List ℕ} {how : OpenHow} {found : Opened}
+module _ {live : Handles} {w u v : HostModel} {s : ℕ} {text : List ℕ} {how : OpenHow} {found : Opened}
     (has : HasOpened live w u s text how found) where
   -- nothing more was touched
-  opened_stays : WorldStays live u v → HasOpened live w v s text how found
+  opened_stays : ModelStays live u v → HasOpened live w v s text how found
   opened_stays stayed = record {
     reply = has.reply;
     tree = stayed.tree ∙ has.tree;
@@ -243,7 +243,7 @@ module _ {live : Handles} {w u v : World} {s : ℕ} {text : List ℕ} {how : Ope
 
 -- ---- how it ends
 
-module _ {live : Handles} {w v : World} {s : ℕ} {text : List ℕ} {how : OpenHow} {found : Opened}
+module _ {live : Handles} {w v : HostModel} {s : ℕ} {text : List ℕ} {how : OpenHow} {found : Opened}
     (has : HasOpened live w v s text how found) where
   asks : (meant_by w.tree (opens s text how)).answer ≡ as_asked how.directory found
   asks = ap (λ r. r >>= as_asked how.directory) has.reply
@@ -274,7 +274,7 @@ module _ {live : Handles} {w v : World} {s : ℕ} {text : List ℕ} {how : OpenH
 -- ---- the new handle's metadata
 
 -- h is the new handle, u the world after the open
-module _ (text : List ℕ) (how : OpenHow) {old mid new : Handles} {w u : World} {s h : ℕ}
+module _ (text : List ℕ) (how : OpenHow) {old mid new : Handles} {w u : HostModel} {s h : ℕ}
     (fresh : (contains old h ≡ false) × (mid ≡ insert old h))
     (did : Resolved {A = ℕ} old w u (opens_at w.tree s text (options_of how)) u.held (Ok h)) (same : new ≡ mid) where
   opens_first : HasOpened old w u s text how (opened_in u.tree (u.held h))
@@ -287,26 +287,26 @@ module _ (text : List ℕ) (how : OpenHow) {old mid new : Handles} {w u : World}
   got = subst (λ s. contains s h ≡ true) (sym fresh.1) (grind (arith, members, nat_tests))
 
   -- it is closed again
-  closed : {last : Handles} {v z : World} → last ≡ remove new h
-      → Told {A = Unit {0}} new last v z Close (λ unit. unit) answered → WorldStays old v z
-  closed ended told =
+  closed : {last : Handles} {v z : HostModel} → last ≡ remove new h
+      → RefinesCall {A = Unit {0}} new last v z Close (λ unit. unit) answered → ModelStays old v z
+  closed ended modelled =
       let again = ended ∙ ap (λ s. remove s h) (same ∙ fresh.1) ∙ remove-insert old h fresh.0 in
-      close_stays told (λ q live. ((kept q live).1, subst (λ s. contains s q ≡ true) (sym again) live))
+      close_stays modelled (λ q live. ((kept q live).1, subst (λ s. contains s q ≡ true) (sym again) live))
 
   -- they were given
-  module _ {v : World} {metadata : Metadata}
-      (told : Told {A = Metadata} mid new u v (Stat (u.held h).node) (λ m. m) (Ok metadata)) where
+  module _ {v : HostModel} {metadata : Metadata}
+      (modelled : RefinesCall {A = Metadata} mid new u v (Stat (u.held h).node) (λ m. m) (Ok metadata)) where
     opens_known : HasOpened old w v s text how (opened_in u.tree (u.held h))
     opens_known =
-        opened_looks opens_first told.after.tree told.after.touched (λ q live. told.keeps q (kept q live).0
+        opened_looks opens_first modelled.after.tree modelled.after.touched (λ q live. modelled.keeps q (kept q live).0
         (kept q live).1)
 
     known : opened_in u.tree (u.held h) ≡ record { held = v.held h; is_dir = is_directory_kind metadata.kind }
     known =
         let content = (node_at u.tree (u.held h).node).content in
         let kind = sym (directory_says content)
-        ∙ ap is_directory_kind (sym (kind_known u.tree (u.held h).node told.meaning)) in
-        let stays = sym (told.keeps h got (same_live same h got)) in
+        ∙ ap is_directory_kind (sym (kind_known u.tree (u.held h).node modelled.meaning)) in
+        let stays = sym (modelled.keeps h got (same_live same h got)) in
         (λ i. record { held = stays i; is_dir = kind i })
 
     pub opening_ok : {descriptor : Descriptor}
@@ -316,28 +316,28 @@ module _ (text : List ℕ) (how : OpenHow) {old mid new : Handles} {w u : World}
     opening_ok at = ends_ok opens_known (ap (as_asked how.directory) known ∙ sym at)
 
     -- but it is no directory, and one was asked for
-    pub opening_refused : {last : Handles} {z : World} {code : ErrorCode} (perms : FsPerms)
+    pub opening_refused : {last : Handles} {z : HostModel} {code : ErrorCode} (perms : FsPerms)
         → may_open how perms ≡ None → last ≡ remove new h
-        → Told {A = Unit {0}} new last v z Close (λ unit. unit) answered
+        → RefinesCall {A = Unit {0}} new last v z Close (λ unit. unit) answered
         → code ≡ NotDirectory
         → Err code ≡ as_asked how.directory (record { held = v.held h; is_dir = is_directory_kind metadata.kind })
         → Resolved old w z (meant_by w.tree (opens s text how)) (opened_of z.held) (Err (Code code))
-    opening_refused {z = z} perms may ended told code at =
+    opening_refused {z = z} perms may ended modelled code at =
         subst (λ c. Resolved old w z (meant_by w.tree (opens s text how)) (opened_of z.held) (Err (Code c))) (sym code)
-        (ends_refused (opened_stays opens_known (closed ended told)) perms may
+        (ends_refused (opened_stays opens_known (closed ended modelled)) perms may
         (ap (as_asked how.directory) known ∙ sym at ∙ ap Err code))
 
   -- the host failed
-  pub opening_failed : {last : Handles} {v z : World} (perms : FsPerms) (code : ErrorCode) → may_open how perms ≡ None
-      → Told {A = Metadata} mid new u v (Stat (u.held h).node) (λ m. m) (hosted (Err code))
+  pub opening_failed : {last : Handles} {v z : HostModel} (perms : FsPerms) (code : ErrorCode) → may_open how perms ≡ None
+      → RefinesCall {A = Metadata} mid new u v (Stat (u.held h).node) (λ m. m) (hosted (Err code))
       → last ≡ remove new h
-      → Told {A = Unit {0}} new last v z Close (λ unit. unit) answered
+      → RefinesCall {A = Unit {0}} new last v z Close (λ unit. unit) answered
       → Resolved old w z (meant_by w.tree (opens s text how)) (opened_of z.held) (Err (Code code))
-  opening_failed {v = v} perms Io may told ended close =
-      ends_failed (opened_stays (looks told.after) (closed ended close)) perms may
+  opening_failed {v = v} perms Io may modelled ended close =
+      ends_failed (opened_stays (looks modelled.after) (closed ended close)) perms may
     where
       keeps : (q : ℕ) → contains old q ≡ true → v.held q ≡ u.held q
-      keeps q live = told.keeps q (kept q live).0 (kept q live).1
+      keeps q live = modelled.keeps q (kept q live).0 (kept q live).1
 
       looks : AfterErr u (Stat (u.held h).node) (Code Io) v
           → HasOpened old w v s text how (opened_in u.tree (u.held h))
@@ -345,4 +345,4 @@ module _ (text : List ℕ) (how : OpenHow) {old mid new : Handles} {w u : World}
           opened_stays opens_first (record { tree = stayed.tree; touched = stayed.touched; keeps = keeps })
       looks (inr (inl looked)) = opened_looks opens_first looked.tree looked.touched keeps
       looks (inr (inr stepped)) = opened_looks opens_first stepped.1.tree stepped.1.touched keeps
-  opening_failed perms code may told ended close = absurd (stat_given u.tree (u.held h).node told.meaning)
+  opening_failed perms code may modelled ended close = absurd (stat_given u.tree (u.held h).node modelled.meaning)

@@ -7,7 +7,7 @@ use Rattle.wasi_host.specs.Tree.{Tree}
 use Rattle.wasi_host.specs.HostCall.{Sync}
 use Rattle.wasi_host.specs.Refusal.{refusal}
 use Rattle.wasi_host.specs.Steps.{◌>>=◌}
-use Rattle.wasi_host.specs.HostLaws.{World, Handles, Told}
+use Rattle.wasi_host.specs.HostLaws.{HostModel, Handles, RefinesCall}
 use Rattle.wasi_host.specs.declared.errors.ErrorCode.{ErrorCode}
 use Rattle.wasi_host.specs.declared.errors.HostError.{HostError}
 use Rattle.wasi_host.specs.declared.open_handle.OpenHandle.{OpenHandle}
@@ -18,7 +18,7 @@ use Rattle.wasi_resolve.specs.Laws.{GivesIn}
 use Rattle.wasi_resolve.specs.Meanings.{ends_by, opens_at}
 use Rattle.wasi_resolve.specs.Paths.{opened, reading}
 use Rattle.wasi_resolve.specs.Resolved.{Meant, Resolved}
-use Rattle.wasi_resolve.specs.WalkSteps.{OnlyLooks, WorldStays}
+use Rattle.wasi_resolve.specs.WalkSteps.{OnlyLooks, ModelStays}
 use Rattle.wasi_resolve.proofs.Calls.{looks_of, means_then, resolved_err, resolved_stay, resolved_then, still_live}
 use Rattle.wasi_resolve.proofs.PathAgreeing as paths
 use Rattle.wasi_resolve.proofs.Requests.{reached_closed}
@@ -35,7 +35,7 @@ stores t d held = record {
   ends = ends_by (λ (h : OpenHandle). h.node) held;
 }
 
-module _ {first : Handles} {w v : World} (d : ℕ) where
+module _ {first : Handles} {w v : HostModel} (d : ℕ) where
   -- an open for reading leaves the tree
   only_looks : (r : Result ℕ HostError) → Resolved first w v (opens_at w.tree d (codes ".") reading) v.held r
       → OnlyLooks first w v (d ∷ [])
@@ -49,9 +49,9 @@ module _ {first : Handles} {w v : World} (d : ℕ) where
       (means_then (opened w.tree d (codes ".") reading true) (λ h. Ok tt) e opens.answer) (only_looks (Err e) opens)
 
   -- it is opened, stored and closed
-  pub is_synced : {mid new : Handles} {u z : World} (h : ℕ) (r : Result (Unit {0}) HostError) → mid ≡ insert first h
+  pub is_synced : {mid new : Handles} {u z : HostModel} (h : ℕ) (r : Result (Unit {0}) HostError) → mid ≡ insert first h
       → new ≡ mid → Resolved first w v (opens_at w.tree d (codes ".") reading) v.held (Ok h)
-      → Told mid new v u (Sync (v.held h).node) (λ unit. unit) r → WorldStays first u z
+      → RefinesCall mid new v u (Sync (v.held h).node) (λ unit. unit) r → ModelStays first u z
       → Resolved first w z (syncs_directory w.tree d) (λ unit. unit) r
   unfolding refusal
   is_synced {u = u} h r got same opens stored closed =

@@ -9,8 +9,8 @@ use Rattle.wasi_host.specs.Refusal.{first_rule}
 use Rattle.wasi_host.specs.Answer.{HostAnswer, stat_answer}
 use Rattle.wasi_host.specs.Step.{times_set}
 use Rattle.wasi_host.specs.Steps.{◌>>=◌}
-use Rattle.wasi_host.specs.Lineage.{HasProvenance, Only, Nothing}
-use Rattle.wasi_host.specs.HostLaws.{World, Handles, Means}
+use Rattle.wasi_host.specs.Provenance.{HasProvenance, Only, Nothing}
+use Rattle.wasi_host.specs.HostLaws.{HostModel, Handles, Means}
 use Rattle.wasi_host.specs.declared.errors.ErrorCode.{ErrorCode}
 use Rattle.wasi_host.specs.declared.errors.ErrorCode.TheVariants.{Invalid, NotPermitted}
 use Rattle.wasi_host.specs.declared.errors.HostError.{HostError}
@@ -173,7 +173,7 @@ LooksAnew (descriptors.Dir dir) old new = HasProvenance (Only dir.dir) Nothing N
 
 -- Whether two nodes are one: the tree stays, no node but these two is touched, and both where it is answered; and the
 -- handles that are live stand for what they stood for
-pub record Compares (live : Handles) (w v : World) (m n : ℕ) (result : Result Bool HostError) : Type 0 where
+pub record Compares (live : Handles) (w v : HostModel) (m n : ℕ) (result : Result Bool HostError) : Type 0 where
   pub answer : Means (λ same. same) (Ok (m == n)) result
   pub tree : v.tree ≡ w.tree
   pub touched : Touches w.tree v.tree (m ∷ n ∷ []) (if is_ok result then m ∷ n ∷ [] else []) w.touched v.touched
@@ -185,7 +185,7 @@ AnswersKnown (descriptors.Dir dir) result old new = (result ≡ Ok types.Directo
 AnswersKnown (descriptors.File file) result old new = Unit {0}
 
 -- the kind of a descriptor's node: a directory's is known
-abbrev pub IsTyped : Handles → World → World → Descriptor → Result DescriptorType HostError → Type 0
+abbrev pub IsTyped : Handles → HostModel → HostModel → Descriptor → Result DescriptorType HostError → Type 0
 IsTyped live w v (descriptors.Dir dir) result = (v ≡ w) × (result ≡ Ok types.Directory)
 IsTyped live w v (descriptors.File file) result =
     Resolved live w v (meant_as (λ metadata. descriptor_type metadata.kind) (stats w.tree (w.held file.file).node))

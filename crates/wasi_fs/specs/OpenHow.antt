@@ -60,8 +60,8 @@ is_unpermitted how perms = (how.create && not (permits perms Make)) || (how.writ
     || (how.truncate && not (permits perms Alter))
 
 -- what is refused of an open below a directory of these permissions, before its path is looked at
-abbrev pub open_rows : OpenHow → FsPerms → List (Bool × ErrorCode)
-open_rows how perms =
+abbrev pub open_rules : OpenHow → FsPerms → List (Bool × ErrorCode)
+open_rules how perms =
     (how.sync, codes.Unsupported)
     ∷ (how.directory && (how.create || how.exclusive || how.truncate), codes.Invalid)
     ∷ (is_unpermitted how perms, codes.NotPermitted)
@@ -69,7 +69,7 @@ open_rows how perms =
 
 -- the code of the first of these rows that holds
 unfoldable pub may_open : OpenHow → FsPerms → Option ErrorCode
-may_open how perms = first_rule (open_rows how perms)
+may_open how perms = first_rule (open_rules how perms)
 
 abbrev pub follow_of : Bool → FollowSymlinks
 follow_of true = Yes

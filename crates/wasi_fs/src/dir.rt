@@ -5,13 +5,13 @@ ghost use Rattle.std.specs.FinSet.{contains};
 ghost use Rattle.std.specs.String.{string_bytes};
 ghost use Rattle.wasi_paths.specs.Parts.{has_root};
 ghost use Rattle.wasi_host.specs.HostLaws.{HasCause};
-ghost use Rattle.wasi_host.specs.Lineage.{HasProvenance, Only, Nothing};
+ghost use Rattle.wasi_host.specs.Provenance.{HasProvenance, Only, Nothing};
 ghost use Rattle.wasi_host.specs.Numbers.{longest_link};
 ghost use Rattle.wasi_host.specs.declared.errors.ErrorCode.TheVariants as codes;
 ghost use Rattle.wasi_host.specs.declared.open_handle.OpenHandle.{OpenHandle};
 ghost use Rattle.wasi_resolve.specs.EntryOps.{CreateDir, RemoveFile, RemoveDir, Symlink, ReadLink};
 ghost use Rattle.wasi_resolve.specs.Finding.{is_directory_kind};
-ghost use Rattle.wasi_resolve.specs.PathRequest.{AtPlace, as_asked, meant_by};
+ghost use Rattle.wasi_resolve.specs.PathRequest.{AtEntry, as_asked, meant_by};
 ghost use Rattle.wasi_resolve.specs.Resolved.{Resolved};
 ghost use Rattle.wasi_fs.specs.Calls.{may_do, may_link, Refuses, handle_of, perms_of, open_mode_of, opened_of, IsAsked, LiveOpened, GotOpened, opens, looks, meant_as};
 ghost use Rattle.wasi_fs.specs.DescriptorStat.{descriptor_stat, IsStat};
@@ -51,16 +51,16 @@ impl Dir {
         requires live { contains (H.live host.old) self.now.dir ≡ true }
         ensures cause { HasCause (H.faults host.old) (H.faults host.new) result }
         ensures live { LiveOpened (H.live host.old) result (H.live host.new) }
-        ensures lineage { HasProvenance (Only self.now.dir) Nothing (GotOpened result) (H.lookups host.old) (H.lookups host.new) }
+        ensures provenance { HasProvenance (Only self.now.dir) Nothing (GotOpened result) (H.lookups host.old) (H.lookups host.new) }
         ensures perms { IfOk result (λ descriptor. perms_of descriptor ≡ self.now.perms) }
         ensures mode { IfOk result (λ descriptor. open_mode_of descriptor ≡ mode_of (how_of path_flags oflags flags)) }
         ensures kind { IfOk result (IsAsked (how_of path_flags oflags flags).directory) }
         ensures permit { Refuses (may_open (how_of path_flags oflags flags) self.now.perms) result host.old host.new }
-        ensures told { IsTrue H.told → may_open (how_of path_flags oflags flags) self.now.perms ≡ None
-            → Resolved (H.live host.old) (H.world host.old) (H.world host.new)
-            (meant_by (H.world host.old).tree
-            (opens ((H.world host.old).held self.now.dir).node path.now (how_of path_flags oflags flags)))
-            (opened_of (H.world host.new).held) result }
+        ensures modelled { IsTrue H.modelled → may_open (how_of path_flags oflags flags) self.now.perms ≡ None
+            → Resolved (H.live host.old) (H.model host.old) (H.model host.new)
+            (meant_by (H.model host.old).tree
+            (opens ((H.model host.old).held self.now.dir).node path.now (how_of path_flags oflags flags)))
+            (opened_of (H.model host.new).held) result }
     {
         let how = OpenHow::of(path_flags, oflags, flags);
         how.check(self.perms)?;
@@ -78,11 +78,11 @@ impl Dir {
         requires live { contains (H.live host.old) self.now.dir ≡ true }
         ensures cause { HasCause (H.faults host.old) (H.faults host.new) result }
         ensures live { H.live host.new ≡ H.live host.old }
-        ensures lineage { HasProvenance (Only self.now.dir) Nothing Nothing (H.lookups host.old) (H.lookups host.new) }
+        ensures provenance { HasProvenance (Only self.now.dir) Nothing Nothing (H.lookups host.old) (H.lookups host.new) }
         ensures permit { Refuses (may_do self.now.perms Make) result host.old host.new }
-        ensures told { IsTrue H.told → may_do self.now.perms Make ≡ None
-            → Resolved (H.live host.old) (H.world host.old) (H.world host.new)
-            (meant_by (H.world host.old).tree (AtPlace ((H.world host.old).held self.now.dir).node path.now CreateDir))
+        ensures modelled { IsTrue H.modelled → may_do self.now.perms Make ≡ None
+            → Resolved (H.live host.old) (H.model host.old) (H.model host.new)
+            (meant_by (H.model host.old).tree (AtEntry ((H.model host.old).held self.now.dir).node path.now CreateDir))
             (λ unit. unit) result }
     {
         self.perms.check(Act::Make)?;
@@ -100,11 +100,11 @@ impl Dir {
         requires live { contains (H.live host.old) self.now.dir ≡ true }
         ensures cause { HasCause (H.faults host.old) (H.faults host.new) result }
         ensures live { H.live host.new ≡ H.live host.old }
-        ensures lineage { HasProvenance (Only self.now.dir) Nothing Nothing (H.lookups host.old) (H.lookups host.new) }
+        ensures provenance { HasProvenance (Only self.now.dir) Nothing Nothing (H.lookups host.old) (H.lookups host.new) }
         ensures permit { Refuses (may_do self.now.perms Alter) result host.old host.new }
-        ensures told { IsTrue H.told → may_do self.now.perms Alter ≡ None
-            → Resolved (H.live host.old) (H.world host.old) (H.world host.new)
-            (meant_by (H.world host.old).tree (AtPlace ((H.world host.old).held self.now.dir).node path.now RemoveDir))
+        ensures modelled { IsTrue H.modelled → may_do self.now.perms Alter ≡ None
+            → Resolved (H.live host.old) (H.model host.old) (H.model host.new)
+            (meant_by (H.model host.old).tree (AtEntry ((H.model host.old).held self.now.dir).node path.now RemoveDir))
             (λ unit. unit) result }
     {
         self.perms.check(Act::Alter)?;
@@ -122,11 +122,11 @@ impl Dir {
         requires live { contains (H.live host.old) self.now.dir ≡ true }
         ensures cause { HasCause (H.faults host.old) (H.faults host.new) result }
         ensures live { H.live host.new ≡ H.live host.old }
-        ensures lineage { HasProvenance (Only self.now.dir) Nothing Nothing (H.lookups host.old) (H.lookups host.new) }
+        ensures provenance { HasProvenance (Only self.now.dir) Nothing Nothing (H.lookups host.old) (H.lookups host.new) }
         ensures permit { Refuses (may_do self.now.perms Alter) result host.old host.new }
-        ensures told { IsTrue H.told → may_do self.now.perms Alter ≡ None
-            → Resolved (H.live host.old) (H.world host.old) (H.world host.new)
-            (meant_by (H.world host.old).tree (AtPlace ((H.world host.old).held self.now.dir).node path.now RemoveFile))
+        ensures modelled { IsTrue H.modelled → may_do self.now.perms Alter ≡ None
+            → Resolved (H.live host.old) (H.model host.old) (H.model host.new)
+            (meant_by (H.model host.old).tree (AtEntry ((H.model host.old).held self.now.dir).node path.now RemoveFile))
             (λ unit. unit) result }
     {
         self.perms.check(Act::Alter)?;
@@ -146,12 +146,12 @@ impl Dir {
         requires live { contains (H.live host.old) self.now.dir ≡ true }
         ensures cause { HasCause (H.faults host.old) (H.faults host.new) result }
         ensures live { H.live host.new ≡ H.live host.old }
-        ensures lineage { HasProvenance (Only self.now.dir) Nothing Nothing (H.lookups host.old) (H.lookups host.new) }
+        ensures provenance { HasProvenance (Only self.now.dir) Nothing Nothing (H.lookups host.old) (H.lookups host.new) }
         ensures permit { Refuses (may_link self.now.perms src_path.now) result host.old host.new }
-        ensures told { IsTrue H.told → may_link self.now.perms src_path.now ≡ None
-            → Resolved (H.live host.old) (H.world host.old) (H.world host.new)
-            (meant_by (H.world host.old).tree
-            (AtPlace ((H.world host.old).held self.now.dir).node dest_path.now (Symlink src_path.now)))
+        ensures modelled { IsTrue H.modelled → may_link self.now.perms src_path.now ≡ None
+            → Resolved (H.live host.old) (H.model host.old) (H.model host.new)
+            (meant_by (H.model host.old).tree
+            (AtEntry ((H.model host.old).held self.now.dir).node dest_path.now (Symlink src_path.now)))
             (λ unit. unit) result }
     {
         self.perms.check(Act::Make)?;
@@ -169,12 +169,12 @@ impl Dir {
         requires live { contains (H.live host.old) self.now.dir ≡ true }
         ensures cause { HasCause (H.faults host.old) (H.faults host.new) result }
         ensures live { H.live host.new ≡ H.live host.old }
-        ensures lineage { HasProvenance (Only self.now.dir) Nothing Nothing (H.lookups host.old) (H.lookups host.new) }
+        ensures provenance { HasProvenance (Only self.now.dir) Nothing Nothing (H.lookups host.old) (H.lookups host.new) }
         ensures some { IfOk result (λ text. 0 < length (string_bytes text)) }
         ensures most { IfOk result (λ text. length (string_bytes text) ≤ longest_link) }
         ensures unrooted { IfOk result (λ text. has_root (string_bytes text) ≡ false) }
-        ensures told { IsTrue H.told → Resolved (H.live host.old) (H.world host.old) (H.world host.new)
-            (meant_by (H.world host.old).tree (AtPlace ((H.world host.old).held self.now.dir).node path.now ReadLink))
+        ensures modelled { IsTrue H.modelled → Resolved (H.live host.old) (H.model host.old) (H.model host.new)
+            (meant_by (H.model host.old).tree (AtEntry ((H.model host.old).held self.now.dir).node path.now ReadLink))
             (λ text. string_bytes text) result }
     {
         wasi_resolve::read_link(alloc, host, self.dir, path)
@@ -192,11 +192,11 @@ impl Dir {
         requires live { contains (H.live host.old) self.now.dir ≡ true }
         ensures cause { HasCause (H.faults host.old) (H.faults host.new) result }
         ensures live { H.live host.new ≡ H.live host.old }
-        ensures lineage { HasProvenance (Only self.now.dir) Nothing Nothing (H.lookups host.old) (H.lookups host.new) }
+        ensures provenance { HasProvenance (Only self.now.dir) Nothing Nothing (H.lookups host.old) (H.lookups host.new) }
         ensures of { IfOk result IsStat }
-        ensures told { IsTrue H.told → Resolved (H.live host.old) (H.world host.old) (H.world host.new)
-            (meant_as descriptor_stat (meant_by (H.world host.old).tree
-            (looks ((H.world host.old).held self.now.dir).node path.now path_flags)))
+        ensures modelled { IsTrue H.modelled → Resolved (H.live host.old) (H.model host.old) (H.model host.new)
+            (meant_as descriptor_stat (meant_by (H.model host.old).tree
+            (looks ((H.model host.old).held self.now.dir).node path.now path_flags)))
             (λ stat. stat) result }
     {
         let metadata = self.look_at(alloc, host, path_flags, path)?;
@@ -215,11 +215,11 @@ impl Dir {
         requires live { contains (H.live host.old) self.now.dir ≡ true }
         ensures cause { HasCause (H.faults host.old) (H.faults host.new) result }
         ensures live { H.live host.new ≡ H.live host.old }
-        ensures lineage { HasProvenance (Only self.now.dir) Nothing Nothing (H.lookups host.old) (H.lookups host.new) }
+        ensures provenance { HasProvenance (Only self.now.dir) Nothing Nothing (H.lookups host.old) (H.lookups host.new) }
         ensures of { IfOk result IsHash }
-        ensures told { IsTrue H.told → Resolved (H.live host.old) (H.world host.old) (H.world host.new)
-            (meant_as metadata_hash (meant_by (H.world host.old).tree
-            (looks ((H.world host.old).held self.now.dir).node path.now path_flags)))
+        ensures modelled { IsTrue H.modelled → Resolved (H.live host.old) (H.model host.old) (H.model host.new)
+            (meant_as metadata_hash (meant_by (H.model host.old).tree
+            (looks ((H.model host.old).held self.now.dir).node path.now path_flags)))
             (λ hash. hash) result }
     {
         let metadata = self.look_at(alloc, host, path_flags, path)?;
@@ -237,10 +237,10 @@ impl Dir {
         requires live { contains (H.live host.old) self.now.dir ≡ true }
         ensures cause { HasCause (H.faults host.old) (H.faults host.new) result }
         ensures live { H.live host.new ≡ H.live host.old }
-        ensures lineage { HasProvenance (Only self.now.dir) Nothing Nothing (H.lookups host.old) (H.lookups host.new) }
-        ensures told { IsTrue H.told → Resolved (H.live host.old) (H.world host.old) (H.world host.new)
-            (meant_by (H.world host.old).tree
-            (looks ((H.world host.old).held self.now.dir).node path.now path_flags))
+        ensures provenance { HasProvenance (Only self.now.dir) Nothing Nothing (H.lookups host.old) (H.lookups host.new) }
+        ensures modelled { IsTrue H.modelled → Resolved (H.live host.old) (H.model host.old) (H.model host.new)
+            (meant_by (H.model host.old).tree
+            (looks ((H.model host.old).held self.now.dir).node path.now path_flags))
             (λ metadata. metadata) result }
     {
         let follow = follow_symlinks(path_flags.contains(PathFlags::SYMLINK_FOLLOW));
@@ -261,13 +261,13 @@ impl Dir {
         requires may { may_open how self.now.perms ≡ None }
         ensures cause { HasCause (H.faults host.old) (H.faults host.new) result }
         ensures live { LiveOpened (H.live host.old) result (H.live host.new) }
-        ensures lineage { HasProvenance (Only self.now.dir) Nothing (GotOpened result) (H.lookups host.old) (H.lookups host.new) }
+        ensures provenance { HasProvenance (Only self.now.dir) Nothing (GotOpened result) (H.lookups host.old) (H.lookups host.new) }
         ensures perms { IfOk result (λ descriptor. perms_of descriptor ≡ self.now.perms) }
         ensures mode { IfOk result (λ descriptor. open_mode_of descriptor ≡ mode_of how) }
         ensures kind { IfOk result (IsAsked how.directory) }
-        ensures told { IsTrue H.told → Resolved (H.live host.old) (H.world host.old) (H.world host.new)
-            (meant_by (H.world host.old).tree (opens ((H.world host.old).held self.now.dir).node path.now how))
-            (opened_of (H.world host.new).held) result }
+        ensures modelled { IsTrue H.modelled → Resolved (H.live host.old) (H.model host.old) (H.model host.new)
+            (meant_by (H.model host.old).tree (opens ((H.model host.old).held self.now.dir).node path.now how))
+            (opened_of (H.model host.new).held) result }
     {
         let handle = wasi_resolve::open(alloc, host, self.dir, path, &how.options())?;
         let metadata = match host.stat(handle) {

@@ -2,7 +2,7 @@
 ghost use Rattle.std.specs.Prelude.{◌≡◌, true, IsTrue, None};
 ghost use Rattle.std.specs.FinSet.{contains};
 ghost use Rattle.wasi_host.specs.HostLaws.{HasCause};
-ghost use Rattle.wasi_host.specs.Lineage.{HasProvenance, OneOf, Nothing};
+ghost use Rattle.wasi_host.specs.Provenance.{HasProvenance, OneOf, Nothing};
 ghost use Rattle.wasi_resolve.specs.TwoPathOps.{HardLink, Rename};
 ghost use Rattle.wasi_resolve.specs.PathRequest.{AtTwo, meant_by};
 ghost use Rattle.wasi_resolve.specs.Resolved.{Resolved};
@@ -34,15 +34,15 @@ impl Dir {
         requires new_live { contains (H.live host.old) new_dir.now.dir ≡ true }
         ensures cause { HasCause (H.faults host.old) (H.faults host.new) result }
         ensures live { H.live host.new ≡ H.live host.old }
-        ensures lineage { HasProvenance (OneOf self.now.dir new_dir.now.dir) Nothing Nothing (H.lookups host.old)
+        ensures provenance { HasProvenance (OneOf self.now.dir new_dir.now.dir) Nothing Nothing (H.lookups host.old)
             (H.lookups host.new) }
         ensures permit { Refuses (may_add_name self.now.perms new_dir.now.perms (is_followed old_path_flags)) result
             host.old host.new }
-        ensures told { IsTrue H.told
+        ensures modelled { IsTrue H.modelled
             → may_add_name self.now.perms new_dir.now.perms (is_followed old_path_flags) ≡ None
-            → Resolved (H.live host.old) (H.world host.old) (H.world host.new)
-            (meant_by (H.world host.old).tree (AtTwo ((H.world host.old).held self.now.dir).node old_path.now
-            ((H.world host.old).held new_dir.now.dir).node new_path.now HardLink))
+            → Resolved (H.live host.old) (H.model host.old) (H.model host.new)
+            (meant_by (H.model host.old).tree (AtTwo ((H.model host.old).held self.now.dir).node old_path.now
+            ((H.model host.old).held new_dir.now.dir).node new_path.now HardLink))
             (λ unit. unit) result }
     {
         let follow = old_path_flags.contains(PathFlags::SYMLINK_FOLLOW);
@@ -65,13 +65,13 @@ impl Dir {
         requires new_live { contains (H.live host.old) new_dir.now.dir ≡ true }
         ensures cause { HasCause (H.faults host.old) (H.faults host.new) result }
         ensures live { H.live host.new ≡ H.live host.old }
-        ensures lineage { HasProvenance (OneOf self.now.dir new_dir.now.dir) Nothing Nothing (H.lookups host.old)
+        ensures provenance { HasProvenance (OneOf self.now.dir new_dir.now.dir) Nothing Nothing (H.lookups host.old)
             (H.lookups host.new) }
         ensures permit { Refuses (may_rename self.now.perms new_dir.now.perms) result host.old host.new }
-        ensures told { IsTrue H.told → may_rename self.now.perms new_dir.now.perms ≡ None
-            → Resolved (H.live host.old) (H.world host.old) (H.world host.new)
-            (meant_by (H.world host.old).tree (AtTwo ((H.world host.old).held self.now.dir).node old_path.now
-            ((H.world host.old).held new_dir.now.dir).node new_path.now Rename))
+        ensures modelled { IsTrue H.modelled → may_rename self.now.perms new_dir.now.perms ≡ None
+            → Resolved (H.live host.old) (H.model host.old) (H.model host.new)
+            (meant_by (H.model host.old).tree (AtTwo ((H.model host.old).held self.now.dir).node old_path.now
+            ((H.model host.old).held new_dir.now.dir).node new_path.now Rename))
             (λ unit. unit) result }
     {
         self.perms.check_rename(new_dir.perms)?;

@@ -26,9 +26,9 @@ impl File {
         ensures no_memory { IfErr result NotMemory }
         ensures live { H.live host.new ≡ H.live host.old }
         ensures logged { H.lookups host.new ≡ H.lookups host.old }
-        ensures told { IsTrue H.told → Resolved (H.live host.old) (H.world host.old) (H.world host.new)
-            (asks_at (H.world host.old).tree (Advise ((H.world host.old).held self.now.file).node offset len advice)
-            ((H.world host.old).held self.now.file).node) (λ unit. unit) result }
+        ensures modelled { IsTrue H.modelled → Resolved (H.live host.old) (H.model host.old) (H.model host.new)
+            (asks_at (H.model host.old).tree (Advise ((H.model host.old).held self.now.file).node offset len advice)
+            ((H.model host.old).held self.now.file).node) (λ unit. unit) result }
     {
         Ok(host.advise(self.file, offset, len, advice)?)
     }
@@ -42,10 +42,10 @@ impl File {
         ensures live { H.live host.new ≡ H.live host.old }
         ensures logged { H.lookups host.new ≡ H.lookups host.old }
         ensures permit { Refuses (may_do self.now.perms Alter) result host.old host.new }
-        ensures told { IsTrue H.told → may_do self.now.perms Alter ≡ None
-            → Resolved (H.live host.old) (H.world host.old) (H.world host.new)
-            (asks_at (H.world host.old).tree (SetSize ((H.world host.old).held self.now.file) size)
-            ((H.world host.old).held self.now.file).node) (λ unit. unit) result }
+        ensures modelled { IsTrue H.modelled → may_do self.now.perms Alter ≡ None
+            → Resolved (H.live host.old) (H.model host.old) (H.model host.new)
+            (asks_at (H.model host.old).tree (SetSize ((H.model host.old).held self.now.file) size)
+            ((H.model host.old).held self.now.file).node) (λ unit. unit) result }
     {
         self.perms.check(Act::Alter)?;
         host.set_size(self.file, size)

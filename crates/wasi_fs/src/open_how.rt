@@ -89,7 +89,7 @@ impl OpenHow {
     /// reading is permitted, and of TRUNCATE where only adding is.
     #[tactic(auto, unfolding(crate::specs::OpenHow::may_open))]
     pub(crate) fn check(&self, perms: FsPerms) -> Result<(), ErrorCode>
-        ensures row { result_err result ≡ may_open self.now perms }
+        ensures specified { result_err result ≡ may_open self.now perms }
         ensures code { IfErr result (λ code. is_io code ≡ false) }
     {
         if self.sync {

@@ -59,7 +59,7 @@ impl FsPerms {
     /// NotPermitted of an act that isn't permitted.
     #[tactic(auto, unfolding(crate::specs::Calls::may_do))]
     pub(crate) fn check(self, act: Act) -> Result<(), ErrorCode>
-        ensures row { result_err result ≡ may_do self act }
+        ensures specified { result_err result ≡ may_do self act }
         ensures code { IfErr result (λ code. code ≡ codes.NotPermitted) }
     {
         if !self.permits(act) {
@@ -72,7 +72,7 @@ impl FsPerms {
     /// permitted in either, Invalid where a link is to be followed, and then NotPermitted where the two differ.
     #[tactic(auto, unfolding(crate::specs::Calls::may_do, crate::specs::Calls::may_add_name))]
     pub(crate) fn check_add_name(self, new: FsPerms, follow: bool) -> Result<(), ErrorCode>
-        ensures row { result_err result ≡ may_add_name self new follow }
+        ensures specified { result_err result ≡ may_add_name self new follow }
         ensures code { IfErr result (λ code. (code ≡ codes.NotPermitted) ⊎ (code ≡ codes.Invalid)) }
     {
         self.check(Act::Make)?;
@@ -90,7 +90,7 @@ impl FsPerms {
     /// permitted in either, and where the two differ.
     #[tactic(auto, unfolding(crate::specs::Calls::may_do, crate::specs::Calls::may_rename))]
     pub(crate) fn check_rename(self, new: FsPerms) -> Result<(), ErrorCode>
-        ensures row { result_err result ≡ may_rename self new }
+        ensures specified { result_err result ≡ may_rename self new }
         ensures code { IfErr result (λ code. code ≡ codes.NotPermitted) }
     {
         self.check(Act::Alter)?;

@@ -26,9 +26,9 @@ impl Descriptor {
         ensures live { H.live host.new ≡ H.live host.old }
         ensures logged { H.lookups host.new ≡ H.lookups host.old }
         ensures of { IfOk result IsStat }
-        ensures told { IsTrue H.told → Resolved (H.live host.old) (H.world host.old) (H.world host.new)
+        ensures modelled { IsTrue H.modelled → Resolved (H.live host.old) (H.model host.old) (H.model host.new)
             (meant_as descriptor_stat
-            (stats (H.world host.old).tree ((H.world host.old).held (handle_of self.now)).node))
+            (stats (H.model host.old).tree ((H.model host.old).held (handle_of self.now)).node))
             (λ stat. stat) result }
     {
         let metadata = self.metadata(host)?;
@@ -43,7 +43,7 @@ impl Descriptor {
         ensures live { H.live host.new ≡ H.live host.old }
         ensures logged { H.lookups host.new ≡ H.lookups host.old }
         ensures known { AnswersKnown self.now result host.old host.new }
-        ensures told { IsTrue H.told → IsTyped (H.live host.old) (H.world host.old) (H.world host.new) self.now
+        ensures modelled { IsTrue H.modelled → IsTyped (H.live host.old) (H.model host.old) (H.model host.new) self.now
             result }
     {
         if let Descriptor::Dir(_) = self {
@@ -61,9 +61,9 @@ impl Descriptor {
         ensures live { H.live host.new ≡ H.live host.old }
         ensures logged { H.lookups host.new ≡ H.lookups host.old }
         ensures of { IfOk result IsHash }
-        ensures told { IsTrue H.told → Resolved (H.live host.old) (H.world host.old) (H.world host.new)
+        ensures modelled { IsTrue H.modelled → Resolved (H.live host.old) (H.model host.old) (H.model host.new)
             (meant_as metadata_hash
-            (stats (H.world host.old).tree ((H.world host.old).held (handle_of self.now)).node))
+            (stats (H.model host.old).tree ((H.model host.old).held (handle_of self.now)).node))
             (λ hash. hash) result }
     {
         let metadata = self.metadata(host)?;
@@ -82,9 +82,9 @@ impl Descriptor {
         ensures no_memory { IfErr result NotMemory }
         ensures live { H.live host.new ≡ H.live host.old }
         ensures logged { H.lookups host.new ≡ H.lookups host.old }
-        ensures told { IsTrue H.told → Compares (H.live host.old) (H.world host.old) (H.world host.new)
-            ((H.world host.old).held (handle_of self.now)).node
-            ((H.world host.old).held (handle_of other.now)).node result }
+        ensures modelled { IsTrue H.modelled → Compares (H.live host.old) (H.model host.old) (H.model host.new)
+            ((H.model host.old).held (handle_of self.now)).node
+            ((H.model host.old).held (handle_of other.now)).node result }
     {
         let here = self.metadata(host)?;
         let there = other.metadata(host)?;
@@ -101,8 +101,8 @@ impl Descriptor {
         ensures live { H.live host.new ≡ H.live host.old }
         ensures logged { H.lookups host.new ≡ H.lookups host.old }
         ensures of { IfOk result (IsFlags self.now) }
-        ensures told { IsTrue H.told → Resolved (H.live host.old) (H.world host.old) (H.world host.new)
-            (tells_flags (H.world host.old).tree ((H.world host.old).held (handle_of self.now)).node self.now)
+        ensures modelled { IsTrue H.modelled → Resolved (H.live host.old) (H.model host.old) (H.model host.new)
+            (tells_flags (H.model host.old).tree ((H.model host.old).held (handle_of self.now)).node self.now)
             descriptor_flag_bits result }
     {
         let modes = self.modes(host)?;
@@ -154,9 +154,9 @@ impl Descriptor {
         ensures no_memory { IfErr result NotMemory }
         ensures live { H.live host.new ≡ H.live host.old }
         ensures logged { H.lookups host.new ≡ H.lookups host.old }
-        ensures told { IsTrue H.told → Resolved (H.live host.old) (H.world host.old) (H.world host.new)
-            (asks_at (H.world host.old).tree (calls.Flags ((H.world host.old).held (handle_of self.now)).node)
-            ((H.world host.old).held (handle_of self.now)).node) (λ modes. modes) result }
+        ensures modelled { IsTrue H.modelled → Resolved (H.live host.old) (H.model host.old) (H.model host.new)
+            (asks_at (H.model host.old).tree (calls.Flags ((H.model host.old).held (handle_of self.now)).node)
+            ((H.model host.old).held (handle_of self.now)).node) (λ modes. modes) result }
     {
         Ok(host.flags(self.handle())?)
     }
@@ -168,8 +168,8 @@ impl Descriptor {
         ensures no_memory { IfErr result NotMemory }
         ensures live { H.live host.new ≡ H.live host.old }
         ensures logged { H.lookups host.new ≡ H.lookups host.old }
-        ensures told { IsTrue H.told → Resolved (H.live host.old) (H.world host.old) (H.world host.new)
-            (stats (H.world host.old).tree ((H.world host.old).held (handle_of self.now)).node)
+        ensures modelled { IsTrue H.modelled → Resolved (H.live host.old) (H.model host.old) (H.model host.new)
+            (stats (H.model host.old).tree ((H.model host.old).held (handle_of self.now)).node)
             (λ metadata. metadata) result }
     {
         Ok(host.stat(self.handle())?)

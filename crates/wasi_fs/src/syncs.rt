@@ -3,7 +3,7 @@ ghost use Rattle.std.specs.Prelude.{◌≡◌, true, IsTrue, IfErr};
 ghost use Rattle.std.specs.FinSet.{contains};
 ghost use Rattle.wasi_host.specs.HostCall.{Sync};
 ghost use Rattle.wasi_host.specs.HostLaws.{HasCause};
-ghost use Rattle.wasi_host.specs.Lineage.{HasProvenance, Only, Nothing};
+ghost use Rattle.wasi_host.specs.Provenance.{HasProvenance, Only, Nothing};
 ghost use Rattle.wasi_resolve.specs.Resolved.{Resolved};
 ghost use Rattle.wasi_fs.specs.Calls.{asks_at, handle_of, syncs, syncs_directory, LooksAnew, NeedsNone, NotMemory};
 
@@ -23,9 +23,9 @@ impl Descriptor {
         ensures cause { HasCause (H.faults host.old) (H.faults host.new) result }
         ensures no_memory { NeedsNone self.now result }
         ensures live { H.live host.new ≡ H.live host.old }
-        ensures lineage { LooksAnew self.now (H.lookups host.old) (H.lookups host.new) }
-        ensures told { IsTrue H.told → Resolved (H.live host.old) (H.world host.old) (H.world host.new)
-            (syncs (H.world host.old).tree (H.world host.old).held self.now) (λ unit. unit) result }
+        ensures provenance { LooksAnew self.now (H.lookups host.old) (H.lookups host.new) }
+        ensures modelled { IsTrue H.modelled → Resolved (H.live host.old) (H.model host.old) (H.model host.new)
+            (syncs (H.model host.old).tree (H.model host.old).held self.now) (λ unit. unit) result }
     {
         match self {
             Descriptor::File(file) => sync_file(host, file.file),
@@ -40,9 +40,9 @@ impl Descriptor {
         ensures cause { HasCause (H.faults host.old) (H.faults host.new) result }
         ensures no_memory { NeedsNone self.now result }
         ensures live { H.live host.new ≡ H.live host.old }
-        ensures lineage { LooksAnew self.now (H.lookups host.old) (H.lookups host.new) }
-        ensures told { IsTrue H.told → Resolved (H.live host.old) (H.world host.old) (H.world host.new)
-            (syncs (H.world host.old).tree (H.world host.old).held self.now) (λ unit. unit) result }
+        ensures provenance { LooksAnew self.now (H.lookups host.old) (H.lookups host.new) }
+        ensures modelled { IsTrue H.modelled → Resolved (H.live host.old) (H.model host.old) (H.model host.new)
+            (syncs (H.model host.old).tree (H.model host.old).held self.now) (λ unit. unit) result }
     {
         self.sync(alloc, host)
     }
@@ -54,8 +54,8 @@ fn sync_file<H: Host>(host: &mut H, file: Handle) -> Result<(), HostError>
     ensures no_memory { IfErr result NotMemory }
     ensures live { H.live host.new ≡ H.live host.old }
     ensures logged { H.lookups host.new ≡ H.lookups host.old }
-    ensures told { IsTrue H.told → Resolved (H.live host.old) (H.world host.old) (H.world host.new)
-        (asks_at (H.world host.old).tree (Sync ((H.world host.old).held file).node) ((H.world host.old).held file).node)
+    ensures modelled { IsTrue H.modelled → Resolved (H.live host.old) (H.model host.old) (H.model host.new)
+        (asks_at (H.model host.old).tree (Sync ((H.model host.old).held file).node) ((H.model host.old).held file).node)
         (λ unit. unit) result }
 {
     Ok(host.sync(file)?)
@@ -66,9 +66,9 @@ fn sync_directory<H: Host>(alloc: Global, host: &mut H, directory: Handle) -> Re
     requires live { contains (H.live host.old) directory ≡ true }
     ensures cause { HasCause (H.faults host.old) (H.faults host.new) result }
     ensures live { H.live host.new ≡ H.live host.old }
-    ensures lineage { HasProvenance (Only directory) Nothing Nothing (H.lookups host.old) (H.lookups host.new) }
-    ensures told { IsTrue H.told → Resolved (H.live host.old) (H.world host.old) (H.world host.new)
-        (syncs_directory (H.world host.old).tree ((H.world host.old).held directory).node) (λ unit. unit) result }
+    ensures provenance { HasProvenance (Only directory) Nothing Nothing (H.lookups host.old) (H.lookups host.new) }
+    ensures modelled { IsTrue H.modelled → Resolved (H.live host.old) (H.model host.old) (H.model host.new)
+        (syncs_directory (H.model host.old).tree ((H.model host.old).held directory).node) (λ unit. unit) result }
 {
     let handle = match wasi_resolve::open(alloc, host, directory, ".", &read_options()) {
         Ok(handle) => handle,

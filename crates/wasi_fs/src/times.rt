@@ -2,7 +2,7 @@
 ghost use Rattle.std.specs.Prelude.{◌≡◌, true, IsTrue, IfErr, None};
 ghost use Rattle.std.specs.FinSet.{contains};
 ghost use Rattle.wasi_host.specs.HostLaws.{HasCause};
-ghost use Rattle.wasi_host.specs.Lineage.{HasProvenance, Only, Nothing};
+ghost use Rattle.wasi_host.specs.Provenance.{HasProvenance, Only, Nothing};
 ghost use Rattle.wasi_resolve.specs.PathRequest.{meant_by};
 ghost use Rattle.wasi_resolve.specs.Resolved.{Resolved};
 ghost use Rattle.wasi_fs.specs.Calls.{may_do, handle_of, perms_of, sets, sets_times, NotMemory, Refuses};
@@ -29,9 +29,9 @@ impl Descriptor {
         ensures live { H.live host.new ≡ H.live host.old }
         ensures logged { H.lookups host.new ≡ H.lookups host.old }
         ensures permit { Refuses (may_do (perms_of self.now) Alter) result host.old host.new }
-        ensures told { IsTrue H.told → may_do (perms_of self.now) Alter ≡ None
-            → Resolved (H.live host.old) (H.world host.old) (H.world host.new)
-            (sets (H.world host.old).tree ((H.world host.old).held (handle_of self.now)).node atim mtim)
+        ensures modelled { IsTrue H.modelled → may_do (perms_of self.now) Alter ≡ None
+            → Resolved (H.live host.old) (H.model host.old) (H.model host.new)
+            (sets (H.model host.old).tree ((H.model host.old).held (handle_of self.now)).node atim mtim)
             (λ unit. unit) result }
     {
         self.perms().check(Act::Alter)?;
@@ -67,12 +67,12 @@ impl Dir {
         requires live { contains (H.live host.old) self.now.dir ≡ true }
         ensures cause { HasCause (H.faults host.old) (H.faults host.new) result }
         ensures live { H.live host.new ≡ H.live host.old }
-        ensures lineage { HasProvenance (Only self.now.dir) Nothing Nothing (H.lookups host.old) (H.lookups host.new) }
+        ensures provenance { HasProvenance (Only self.now.dir) Nothing Nothing (H.lookups host.old) (H.lookups host.new) }
         ensures permit { Refuses (may_do self.now.perms Alter) result host.old host.new }
-        ensures told { IsTrue H.told → may_do self.now.perms Alter ≡ None
-            → Resolved (H.live host.old) (H.world host.old) (H.world host.new)
-            (meant_by (H.world host.old).tree
-            (sets_times ((H.world host.old).held self.now.dir).node path.now path_flags atim mtim))
+        ensures modelled { IsTrue H.modelled → may_do self.now.perms Alter ≡ None
+            → Resolved (H.live host.old) (H.model host.old) (H.model host.new)
+            (meant_by (H.model host.old).tree
+            (sets_times ((H.model host.old).held self.now.dir).node path.now path_flags atim mtim))
             (λ unit. unit) result }
     {
         self.perms.check(Act::Alter)?;

@@ -3,7 +3,7 @@ use Rattle.std.proofs.Common.{ℕ, ◌+◌, ◌≡◌, List, take, map, ap, sym,
 use Rattle.std.proofs.lemmas.Option.{slice_get_within}
 use Rattle.std.specs.Prelude.{sum_by}
 use Rattle.wasi_host.specs.Tree.{Tree, next_of}
-use Rattle.wasi_tree.specs.Given.{Given}
+use Rattle.wasi_tree.specs.NodeData.{NodeData}
 use Rattle.wasi_p1_model.proofs.RunLaws.{one_run}
 use Rattle.wasi_guests.specs.Agree.{CameToTheSame, SchedulesAgree}
 use Rattle.wasi_guests.specs.Alone.{AloneRun, End, Starting, end_alone, made_by, turns_of}
@@ -11,7 +11,7 @@ use Rattle.wasi_guests.specs.AsIfAlone.{AsIfAlone, IsGuest}
 use Rattle.wasi_guests.proofs.PlaceLemmas.{is_there, map_alike, map_same}
 
 module _ (start : Tree) (guests : List Starting) (schedule schedule' : List ℕ) (ends ends' : List End)
-    (nodes nodes' : List Given) (one : AsIfAlone start guests schedule ends nodes)
+    (nodes nodes' : List NodeData) (one : AsIfAlone start guests schedule ends nodes)
     (other : AsIfAlone start guests schedule' ends' nodes') (turns : (i : ℕ) → turns_of i schedule' ≡ turns_of i schedule) where
   -- a guest and as many calls have one run
   run_same : (i : ℕ) (run run' : AloneRun) → slice_get other.alone i ≡ Some run' → slice_get one.alone i ≡ Some run

@@ -15,16 +15,16 @@ use Rattle.wasi_host.specs.Agree.{IsMade}
 use Rattle.wasi_host.specs.Tree.{Tree, Content, File, Directory, Link, next_of, node_at, names_of, is_directory}
 use Rattle.wasi_host.specs.ValidTree.{Reached, root, held}
 use Rattle.wasi_host.proofs.Changes.{directory_within}
-use Rattle.wasi_setup.specs.Start.{given_guest_slots}
+use Rattle.wasi_setup.specs.Start.{preopen_guest_slots}
 use Rattle.wasi_setup.proofs.Starts.{confined_at_start}
 use Rattle.wasi_setup.proofs.ToldNodes.{told_at}
-use Rattle.wasi_tree.specs.Given.{Given, directory, content_given, given_of}
+use Rattle.wasi_tree.specs.NodeData.{NodeData, directory, data_of_content, data_of_node}
 use Rattle.wasi_tree.specs.Sound.{IsSoundNode}
 use Rattle.wasi_p1_types.specs.Guest.{State, open_nodes}
 use Rattle.wasi_p1_model.specs.Reach.{Inside}
 use Rattle.wasi_guests.specs.Alone.{AloneRun, End, IsAlone, Starting, end_alone, made_by, starting, turns_of}
-use Rattle.wasi_guests.specs.AsIfAlone.{AsIfAlone, IsGuest, MayBegin, directories_given}
-use Rattle.wasi_guests.specs.Between.{AreAt, AreBegunOn, AreJoined, AreNumbered, HasRoom, IsAt, IsBegunOn, IsGoing, IsOver, end_of, joint_given, joint_in, tree_of}
+use Rattle.wasi_guests.specs.AsIfAlone.{AsIfAlone, IsGuest, MayBegin, preopen_directories}
+use Rattle.wasi_guests.specs.Between.{AreAt, AreBegunOn, AreJoined, AreNumbered, HasRoom, IsAt, IsBegunOn, IsGoing, IsOver, end_of, joint_node_data, joint_in, tree_of}
 use Rattle.wasi_guests.specs.Insides.{AreInTree, IsLowestShared, LiesInside, directories_of}
 use Rattle.wasi_guests.specs.Joint.{MadeNode, content_renumbered, joint_number, made_before, renumbered}
 use Rattle.wasi_setup.specs.Merged.{IsMergedTree}
@@ -157,11 +157,11 @@ are_within {runs = runs} are k run within =
 
 -- the nodes of its first descriptors are the directories that it is given
 given_nodes : (place : ℕ) (preopens : List ScriptPreopen)
-    → open_nodes (given_guest_slots place (map planned_preopen preopens)) ≡ map (λ p. p.node) preopens
+    → open_nodes (preopen_guest_slots place (map planned_preopen preopens)) ≡ map (λ p. p.node) preopens
 given_nodes place [] = refl
 given_nodes place (p ∷ preopens) = ap (λ l. p.node ∷ l) (given_nodes (suc place) preopens)
 
-opened_first : (t : Tree) (plan : GuestPlan) → open_nodes (starting t plan).state.guest.slots ≡ directories_given plan
+opened_first : (t : Tree) (plan : GuestPlan) → open_nodes (starting t plan).state.guest.slots ≡ preopen_directories plan
 opened_first t plan = given_nodes 0 plan.preopens.items
 
 -- what is reached doesn't rest on what was worked on
@@ -171,13 +171,13 @@ reached_in (root n has) = root n has
 reached_in (held d n name above is) = held d n name (reached_in above) is
 
 -- the directories that guests are given are in the tree
-directories_in : {t : Tree} (plan : GuestPlan) → MayBegin t plan → All (λ n. n < next_of t) (directories_given plan)
+directories_in : {t : Tree} (plan : GuestPlan) → MayBegin t plan → All (λ n. n < next_of t) (preopen_directories plan)
 directories_in {t} plan begin = All-map (λ n. n < next_of t) (λ (p : ScriptPreopen). p.node) plan.preopens.items
     (All-weaker (λ (p : ScriptPreopen). is_directory (node_at t p.node).content ≡ true) _
     (λ p is. directory_within t p.node is) plan.preopens.items begin.directories)
 
-pub all_in : {t : Tree} (plans : List GuestPlan) → All (MayBegin t) plans → AreInTree t (map directories_given plans)
-all_in {t} plans may = All-map (All (λ n. n < next_of t)) directories_given plans
+pub all_in : {t : Tree} (plans : List GuestPlan) → All (MayBegin t) plans → AreInTree t (map preopen_directories plans)
+all_in {t} plans may = All-map (All (λ n. n < next_of t)) preopen_directories plans
     (All-weaker (MayBegin t) _ directories_in plans may)
 
 -- a guest among those that begin, and what it begins as
@@ -193,17 +193,17 @@ begins_at {t} {plans} {i} {g} begins =
     record { plan = plan; there = there; is = is }
 
 module _ {t : Tree} {plans : List GuestPlan} {i : ℕ} {g : Starting} (guest : Begins t plans i g) where
-  reached : {n : ℕ} → Inside g.state n → Reached t (directories_given guest.plan) n
+  reached : {n : ℕ} → Inside g.state n → Reached t (preopen_directories guest.plan) n
   reached {n} inside =
       let here : Reached (record t { worked = empty }) (open_nodes (starting t guest.plan).state.guest.slots) n =
       subst (λ (h : Starting). Inside h.state n) (sym guest.is) inside in
       rw (opened_first t guest.plan) at (reached_in {t = t} here)
 
   -- in the words of the guests' directories
-  lies_inside : {n : ℕ} → Inside g.state n → LiesInside t (directories_of (map directories_given plans) i) n
+  lies_inside : {n : ℕ} → Inside g.state n → LiesInside t (directories_of (map preopen_directories plans) i) n
   lies_inside {n} inside = subst (λ ds. LiesInside t ds n)
-      (sym (get_or_from_slice_get (map directories_given plans) i (directories_given guest.plan) []
-      (slice_get-map directories_given plans i ∙ ap (option_map directories_given) guest.there)))
+      (sym (get_or_from_slice_get (map preopen_directories plans) i (preopen_directories guest.plan) []
+      (slice_get-map preopen_directories plans i ∙ ap (option_map preopen_directories) guest.there)))
       (reached inside)
 
   module _ (may : All (MayBegin t) plans) (sound : (n : ℕ) → IsSoundNode (next_of t) (node_at t n)) where
@@ -211,9 +211,9 @@ module _ {t : Tree} {plans : List GuestPlan} {i : ℕ} {g : Starting} (guest : B
     begin = subst (MayBegin t) (get_or_from_slice_get plans i guest.plan guest.plan guest.there)
         (may i guest.plan (slice_get_within plans i guest.plan guest.there))
 
-    within_tree : {n : ℕ} → Reached t (directories_given guest.plan) n → n < next_of t
+    within_tree : {n : ℕ} → Reached t (preopen_directories guest.plan) n → n < next_of t
     within_tree (root n has) =
-        All-contains (λ n. n < next_of t) (directories_given guest.plan) n (directories_in guest.plan begin) has
+        All-contains (λ n. n < next_of t) (preopen_directories guest.plan) n (directories_in guest.plan begin) has
     within_tree (held d n name above is) = (sound d).below name n is
 
     -- what lies inside is in the tree
@@ -298,7 +298,7 @@ entries_same number (e ∷ entries) stay =
     λ k. (e.0, here k) ∷ rest k
 
 content_same : (number : ℕ → ℕ) (content : Content) → All (λ e. number e.1 ≡ e.1) (maps.entries (names_of content))
-    → content_renumbered number (content_given content) ≡ content_given content
+    → content_renumbered number (data_of_content content) ≡ data_of_content content
 content_same number (File bytes links) stay = refl
 content_same number (Directory names gone) stay = ap (λ l. directory l) (entries_same number (maps.entries names) stay)
 content_same number (Link text links) stay = refl
@@ -307,14 +307,14 @@ content_same number (Link text links) stay = refl
 
 module _ (t : Tree) (plans : List GuestPlan) (may : All (MayBegin t) plans)
     (sound : (n : ℕ) → IsSoundNode (next_of t) (node_at t n))
-    (apart : IsLowestShared t (map directories_given plans) None) (schedule : List ℕ) (runs : List GuestRun)
-    (made : List MadeNode) (nodes : List Given) (are : AreAt t (starts t plans) schedule runs made)
-    (joined : AreJoined runs made (map given_of t.nodes) nodes) where
+    (apart : IsLowestShared t (map preopen_directories plans) None) (schedule : List ℕ) (runs : List GuestRun)
+    (made : List MadeNode) (nodes : List NodeData) (are : AreAt t (starts t plans) schedule runs made)
+    (joined : AreJoined runs made (map data_of_node t.nodes) nodes) where
   abbrev guests : List Starting
   guests = starts t plans
 
-  long : length (map given_of t.nodes) ≡ next_of t
-  long = length-map t.nodes given_of
+  long : length (map data_of_node t.nodes) ≡ next_of t
+  long = length-map t.nodes data_of_node
 
   guest_at : {i : ℕ} {g : Starting} → slice_get guests i ≡ Some g → Begins t plans i g
   guest_at begins = begins_at {t = t} {plans = plans} begins
@@ -355,10 +355,10 @@ module _ (t : Tree) (plans : List GuestPlan) (may : All (MayBegin t) plans)
     numbers = λ k n. number_is t (are.numbered i run stands) are.fresh n k
 
     -- a node of the guest, with the numbers for all
-    given_is : (n : ℕ) → joint_given (next_of t) run n
-        ≡ renumbered (joint_number t made i) (given_of (node_at one.last.tree n))
-    given_is n = ap (λ f. renumbered f (given_of (node_at (tree_of run) n))) numbers
-        ∙ ap (λ u. renumbered (joint_number t made i) (given_of (node_at u n))) (sym same_tree)
+    given_is : (n : ℕ) → joint_node_data (next_of t) run n
+        ≡ renumbered (joint_number t made i) (data_of_node (node_at one.last.tree n))
+    given_is n = ap (λ f. renumbered f (data_of_node (node_at (tree_of run) n))) numbers
+        ∙ ap (λ u. renumbered (joint_number t made i) (data_of_node (node_at u n))) (sym same_tree)
 
   -- no other guest worked on what lies inside one
   nobody_else : {i n : ℕ} {g : Starting} → slice_get guests i ≡ Some g → Inside g.state n → (j : ℕ) (other : GuestRun)
@@ -380,30 +380,30 @@ module _ (t : Tree) (plans : List GuestPlan) (may : All (MayBegin t) plans)
   -- a node of the start that no guest worked on stays
   stays : (n : ℕ) → n < next_of t
       → ((i : ℕ) (run : GuestRun) → slice_get runs i ≡ Some run → contains (tree_of run).worked n ≡ false)
-      → slice_get nodes n ≡ Some (given_of (node_at t n))
+      → slice_get nodes n ≡ Some (data_of_node (node_at t n))
   stays n below nobody = joined.others n (omega (arith, below, long)) nobody ∙ told_at t n below
 
   module _ {i n : ℕ} {g : Starting} {one : AloneRun} (is : IsGuest guests are.alone i g one) where
     inside : Inside g.state n
-        → slice_get nodes n ≡ Some (renumbered (joint_number t made i) (given_of (node_at one.last.tree n)))
+        → slice_get nodes n ≡ Some (renumbered (joint_number t made i) (data_of_node (node_at one.last.tree n)))
     inside in_it = by (run_there is)
       where
         below : n < next_of t
         below = inside_within (guest_at is.begins) may sound in_it
 
-        same_node : (n : ℕ) → renumbered (joint_number t made i) (given_of (node_at t n)) ≡ given_of (node_at t n)
-        same_node n = ap (λ c. record (given_of (node_at t n)) { content = c })
+        same_node : (n : ℕ) → renumbered (joint_number t made i) (data_of_node (node_at t n)) ≡ data_of_node (node_at t n)
+        same_node n = ap (λ c. record (data_of_node (node_at t n)) { content = c })
             (content_same (joint_number t made i) (node_at t n).content
             (All-weaker (λ e. e.1 < next_of t) _ (λ e low.
             ap (λ o. unwrap_or (option_map (λ before. next_of t + before) o) e.1) (not_made (next_of t) i e.1 made are.fresh low))
             _ (entries_within (sound n))))
 
         by : (run : GuestRun) × (slice_get runs i ≡ Some run)
-            → slice_get nodes n ≡ Some (renumbered (joint_number t made i) (given_of (node_at one.last.tree n)))
+            → slice_get nodes n ≡ Some (renumbered (joint_number t made i) (data_of_node (node_at one.last.tree n)))
         by (run, stands) = elim (cases_Bool (contains (tree_of run).worked n)) [
           | inl worked ↦
               joined.kept i n run stands (omega (arith, below, long)) worked (nobody_else is.begins in_it)
-              ∙ ap (λ k. Some (joint_given k run n)) long
+              ∙ ap (λ k. Some (joint_node_data k run n)) long
               ∙ ap (λ node. Some node) (given_is is stands n)
           | inr unworked ↦
               stays n below (λ j other there. elim (cases_eq j i) [
@@ -412,13 +412,13 @@ module _ (t : Tree) (plans : List GuestPlan) (may : All (MayBegin t) plans)
                     ap (λ r. contains (tree_of r).worked n) (sym own) ∙ unworked
                 | inr differ ↦ nobody_else is.begins in_it j other there differ
               ])
-              ∙ ap (λ node. Some node) (sym (ap (λ x. renumbered (joint_number t made i) (given_of x)) (node_is is stands n unworked)
+              ∙ ap (λ node. Some node) (sym (ap (λ x. renumbered (joint_number t made i) (data_of_node x)) (node_is is stands n unworked)
               ∙ same_node n))
         ]
 
     new : IsMade t one.last.tree n
         → slice_get nodes (joint_number t made i n)
-        ≡ Some (renumbered (joint_number t made i) (given_of (node_at one.last.tree n)))
+        ≡ Some (renumbered (joint_number t made i) (data_of_node (node_at one.last.tree n)))
     new fresh = by (run_there is)
       where
         was_some : (o : Option ℕ) (number : ℕ) → option_map (λ before. next_of t + before) o ≡ Some number
@@ -428,7 +428,7 @@ module _ (t : Tree) (plans : List GuestPlan) (may : All (MayBegin t) plans)
 
         by : (run : GuestRun) × (slice_get runs i ≡ Some run)
             → slice_get nodes (joint_number t made i n)
-            ≡ Some (renumbered (joint_number t made i) (given_of (node_at one.last.tree n)))
+            ≡ Some (renumbered (joint_number t made i) (data_of_node (node_at one.last.tree n)))
         by (run, stands) =
             let are_numbered = are.numbered i run stands in
             let k : n - next_of t < length run.joint.items =
@@ -443,11 +443,11 @@ module _ (t : Tree) (plans : List GuestPlan) (may : All (MayBegin t) plans)
             ap (λ o. unwrap_or (option_map (λ before. next_of t + before) o) n) before in
             ap (slice_get nodes) (joint_is ∙ ap (λ m. m + p) (sym long))
             ∙ joined.behind p i n run (made_there (i, n) made p before) stands
-            ∙ ap (λ k. Some (joint_given k run n)) long
+            ∙ ap (λ k. Some (joint_node_data k run n)) long
             ∙ ap (λ node. Some node) (given_is is stands n)
 
   others : (n : ℕ) → n < next_of t → ((i : ℕ) (g : Starting) → slice_get guests i ≡ Some g → Inside g.state n → ⊥)
-      → slice_get nodes n ≡ Some (given_of (node_at t n))
+      → slice_get nodes n ≡ Some (data_of_node (node_at t n))
   others n below nobody = stays n below (λ i run stands.
       false_from_ne_true (contains (tree_of run).worked n) (λ worked.
       let short = slice_get_within runs i run stands in

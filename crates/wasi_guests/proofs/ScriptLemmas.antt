@@ -20,9 +20,9 @@ use Rattle.wasi_report.specs.Guests.{GuestReport, guest_reported, guests_text}
 use Rattle.wasi_report.specs.GuestsReadBack.{FitsGuests}
 use Rattle.wasi_report.specs.declared.guests.GuestOutcome.{GuestOutcome}
 use Rattle.wasi_setup.proofs.Starts.{within_on}
-use Rattle.wasi_tree.specs.Given.{Given, tree_of}
+use Rattle.wasi_tree.specs.NodeData.{NodeData, tree_of}
 use Rattle.wasi_guests.specs.Alone.{End, Starting, ended, starting}
-use Rattle.wasi_guests.specs.AsIfAlone.{AsIfAlone, IsOutcome, MayBegin, directories_given}
+use Rattle.wasi_guests.specs.AsIfAlone.{AsIfAlone, IsOutcome, MayBegin, preopen_directories}
 use Rattle.wasi_guests.specs.GuestScript.{AreApart, AreShownWithin, ComesTo, TellsAsIfAlone, end_told, ends_told, guest_of, insides, most_nodes, nodes_given, shows_of, starting_by, tree_at_start}
 use Rattle.wasi_guests.specs.Insides.{IsLowestShared}
 use Rattle.wasi_guests.specs.declared.plan.GuestEnd.{GuestEnd}
@@ -49,7 +49,7 @@ HasPieces s = list_all (is_piece_within s.size) (map planned_piece s.pieces.item
 abbrev IsShown : Vec Shown Global × GuestEnd → Type 0
 IsShown p = list_all (is_shown_within (length p.1.memory)) p.0.items ≡ true
 
-module _ (nodes : List Given) (limits : Limits) where
+module _ (nodes : List NodeData) (limits : Limits) where
   -- it begins as its plan says
   start_same : (s : Session) → starting (tree_of nodes limits) (guest_of s) ≡ starting_by (planned nodes limits s)
   unfolding tree_of
@@ -67,7 +67,7 @@ module _ (nodes : List Given) (limits : Limits) where
   nodes_same (p ∷ ps) = ap (λ ns. p.node ∷ ns) (nodes_same ps)
 
   pub insides_same : (ss : List Session)
-      → map directories_given (map guest_of ss) ≡ map nodes_given (map (planned nodes limits) ss)
+      → map preopen_directories (map guest_of ss) ≡ map nodes_given (map (planned nodes limits) ss)
   insides_same [] = refl
   insides_same (s ∷ ss) = λ i. nodes_same s.preopens.items i ∷ insides_same ss i
 
@@ -170,7 +170,7 @@ module _ (done : List GuestOutcome) (one : GuestOutcome) {shows : List (Vec Show
   within_more = subst (λ n. AreShownWithin (drop n shows) rest) (sym (count_more done one pushed)) first.rest
 
 -- what is to be shown of each guest is as its plan says
-pub shows_same : (nodes : List Given) (limits : Limits) (ss : List Session)
+pub shows_same : (nodes : List NodeData) (limits : Limits) (ss : List Session)
     → map shown_items (map (λ s. s.show) ss) ≡ map (λ guest. guest.show) (map (planned nodes limits) ss)
 shows_same nodes limits [] = refl
 shows_same nodes limits (s ∷ ss) = ap (λ shows. s.show.items ∷ shows) (shows_same nodes limits ss)
@@ -187,7 +187,7 @@ module _ (plan : GuestsPlan) {t : Tree} {given : List (List ℕ)} (tree_is : t �
   comes_to_none Memory Is is = tt
 
   -- and so is the text of what they come to
-  pub comes_to_text : {starts : List Starting} {ends : List End} {nodes : List Given} {told : List GuestReport} {text : List ℕ}
+  pub comes_to_text : {starts : List Starting} {ends : List End} {nodes : List NodeData} {told : List GuestReport} {text : List ℕ}
       → starts ≡ map starting_by plan.guests → told ≡ ends_told (shows_of plan) ends
       → IsLowestShared t given None → next_of t + length plan.schedule ≤ t.limits.nodes
       → AsIfAlone t starts plan.schedule ends nodes → FitsGuests (record { guests = told; tree = nodes })

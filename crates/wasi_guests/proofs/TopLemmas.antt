@@ -86,15 +86,15 @@ whole_extent the_usage = refl
 whole_extent (the_refusal refusal) = refl
 whole_extent (the_outcome plan) = refl
 
-module _ {told rose : Type 0} {taken now text : List ℕ} {status : GuestStatus} (run : Bool) (left : List ℕ) (d : Due)
-    (owed : IsOwed run left d) (was : Written statuses.WriteFault told rose taken now text (status_of d) status) where
+module _ {modelled rose : Type 0} {taken now text : List ℕ} {status : GuestStatus} (run : Bool) (left : List ℕ) (d : Due)
+    (owed : IsOwed run left d) (was : Written statuses.WriteFault modelled rose taken now text (status_of d) status) where
   -- the status of what was written is due
   pub status_due : OfDue status run left (λ due. IsStatus (extent status) status (status_of due))
   status_due = of_owed extent (whole_extent d) refl (IsOwed run left)
       (λ due. IsStatus (extent status) status (status_of due)) d owed (is_status extent (whole_extent d) refl was) was
 
   -- and so is the text
-  pub text_due : told → IsText d text → OfDue status run left (λ due. Took (extent status) (IsText due) taken now)
+  pub text_due : modelled → IsText d text → OfDue status run left (λ due. Took (extent status) (IsText due) taken now)
   text_due tells is = of_owed extent (whole_extent d) refl (IsOwed run left)
       (λ due. Took (extent status) (IsText due) taken now) d owed
       (takes extent (whole_extent d) refl (IsText d) tells is was) was

@@ -8,7 +8,7 @@ use Rattle.wasi_host_faults.proofs.Rising.{counts_few}
 use Rattle.wasi_host.specs.Tree.{next_of}
 use Rattle.wasi_host.specs.HostLaws.{Rose}
 use Rattle.wasi_tree_index.proofs.RunLemmas.{get_within}
-use Rattle.wasi_setup.specs.Start.{world_behind}
+use Rattle.wasi_setup.specs.Start.{model_behind}
 use Rattle.wasi_p1_types.specs.Front.{FueledCall, with_fuel}
 use Rattle.wasi_p1_types.specs.Guest.{State, state_of}
 use Rattle.wasi_p1_model.specs.Reach.{Confined}
@@ -82,10 +82,10 @@ module _ {g : Starting} {t : ℕ} {alone : AloneRun} {old new : GuestRun} (was :
   call = with_fuel old.fuel made.call
 
   abbrev here : State
-  here = state_of world_behind old.context old.memory
+  here = state_of model_behind old.context old.memory
 
   abbrev there : State
-  there = state_of world_behind new.context new.memory
+  there = state_of model_behind new.context new.memory
 
   abbrev one : TraceStep
   one = turned here call made.answer there
@@ -98,13 +98,13 @@ module _ {g : Starting} {t : ℕ} {alone : AloneRun} {old new : GuestRun} (was :
 
   played : Played one
   played = elim (turn_of call made.result made.answers made.turn.turn) [
-    | inl by_row ↦ by_row
+    | inl by_spec ↦ by_spec
     | inr (faulted, rose) ↦ absurd (unfailing_never old new still_unfailing rose)
   ]
 
-  confined : Confined g.state there (world_behind new.context.host).touched
+  confined : Confined g.state there (model_behind new.context.host).touched
   confined = turn_confines made.turn
-      (subst (λ s. Confined g.state s (world_behind old.context.host).touched) (sym was.state) was.confined)
+      (subst (λ s. Confined g.state s (model_behind old.context.host).touched) (sym was.state) was.confined)
 
   answers : new.answers.answers ≡ answers_of (alone.turns ++ one ∷ [])
   answers = made.more ∙ ap (λ l. l ++ made.answer ∷ []) was.answers

@@ -3,7 +3,7 @@ use Rattle.std.specs.Prelude.{ℕ, ◌≡◌, ◌+◌, ◌<◌, ◌≤◌, true,
 use Rattle.wasi_guest.specs.Quotas.{IsQuota}
 use Rattle.wasi_host.specs.Agree.{IsMade}
 use Rattle.wasi_host.specs.Tree.{Tree, is_directory, next_of, node_at}
-use Rattle.wasi_tree.specs.Given.{Given, given_of}
+use Rattle.wasi_tree.specs.NodeData.{NodeData, data_of_node}
 use Rattle.wasi_p1_model.specs.Reach.{Inside}
 use Rattle.wasi_guests.specs.Alone.{AloneRun, End, IsAlone, Starting, end_alone, made_by, turns_at, turns_of}
 use Rattle.wasi_guests.specs.Insides.{IsLowestShared}
@@ -21,8 +21,8 @@ pub record MayBegin (t : Tree) (plan : GuestPlan) : Type 0 where
   pub quota : IsQuota plan.quota
 
 -- the directories that a guest is given
-abbrev pub directories_given : GuestPlan → List ℕ
-directories_given plan = map (λ preopen. preopen.node) plan.preopens.items
+abbrev pub preopen_directories : GuestPlan → List ℕ
+preopen_directories plan = map (λ preopen. preopen.node) plan.preopens.items
 
 -- a guest, and its run alone, by its place among the others
 pub record IsGuest (guests : List Starting) (alone : List AloneRun) (i : ℕ) (g : Starting) (run : AloneRun) : Type 0 where
@@ -33,7 +33,7 @@ pub record IsGuest (guests : List Starting) (alone : List AloneRun) (i : ℕ) (g
 -- these nodes. With each guest's run alone, of as many calls as it has turns: each guest ends as alone. The nodes inside it,
 -- and those that it made, under the numbers that they have for all, are as its run alone leaves them, but for the numbers of
 -- made nodes. Every other node of the start is as it was, and there are no nodes but these
-pub record AsIfAlone (start : Tree) (guests : List Starting) (schedule : List ℕ) (ends : List End) (nodes : List Given)
+pub record AsIfAlone (start : Tree) (guests : List Starting) (schedule : List ℕ) (ends : List End) (nodes : List NodeData)
     : Type 0 where
   pub alone : List AloneRun
   pub each : length alone ≡ length guests
@@ -42,13 +42,13 @@ pub record AsIfAlone (start : Tree) (guests : List Starting) (schedule : List �
   pub made : List MadeNode
   pub made_are : made ≡ made_in (turns_at alone) schedule
   pub inside : (i n : ℕ) (g : Starting) (run : AloneRun) → IsGuest guests alone i g run → Inside g.state n
-      → slice_get nodes n ≡ Some (renumbered (joint_number start made i) (given_of (node_at run.last.tree n)))
+      → slice_get nodes n ≡ Some (renumbered (joint_number start made i) (data_of_node (node_at run.last.tree n)))
   pub new : (i n : ℕ) (g : Starting) (run : AloneRun) → IsGuest guests alone i g run → IsMade start run.last.tree n
       → slice_get nodes (joint_number start made i n)
-      ≡ Some (renumbered (joint_number start made i) (given_of (node_at run.last.tree n)))
+      ≡ Some (renumbered (joint_number start made i) (data_of_node (node_at run.last.tree n)))
   pub others : (n : ℕ) → n < next_of start
       → ((i : ℕ) (g : Starting) → slice_get guests i ≡ Some g → Inside g.state n → ⊥)
-      → slice_get nodes n ≡ Some (given_of (node_at start n))
+      → slice_get nodes n ≡ Some (data_of_node (node_at start n))
   pub count : length nodes ≡ next_of start + sum_by (made_by start) alone
 
 -- The outcome of guests that are given directories over a tree, with so many turns: the lowest node that lies inside two of

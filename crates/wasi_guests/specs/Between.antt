@@ -8,8 +8,8 @@ use Rattle.wasi_guest.specs.declared.call.Call.{Call}
 use Rattle.wasi_host.specs.HostLaws.{FaultCount, Rose, never_fails}
 use Rattle.wasi_host.specs.Tree.{Tree, next_of, node_at}
 use Rattle.wasi_overlay.specs.Overlay.{WorksOnTouched}
-use Rattle.wasi_setup.specs.Start.{world_behind}
-use Rattle.wasi_tree.specs.Given.{Given, given_of}
+use Rattle.wasi_setup.specs.Start.{model_behind}
+use Rattle.wasi_tree.specs.NodeData.{NodeData, data_of_node}
 use Rattle.wasi_tree.specs.MemState.{MemState}
 use Rattle.wasi_p1_model.specs.CallTransition.{Causes, Transitions}
 use Rattle.wasi_p1_types.specs.Front.{FueledCall, with_fuel}
@@ -30,7 +30,7 @@ faults_of context = counted never_fails context.host.calls
 
 -- the tree as the guest sees it
 abbrev pub tree_of : GuestRun → Tree
-tree_of run = (world_behind run.context.host).tree
+tree_of run = (model_behind run.context.host).tree
 
 -- the guest's next call was made and answered
 pub record MadeCall (old new : GuestRun) : Type 0 where
@@ -40,7 +40,7 @@ pub record MadeCall (old new : GuestRun) : Type 0 where
   pub answer : Answer
   pub answers : answer_of result ≡ Some answer
   pub cause : Causes (faults_of old.context) (faults_of new.context) result
-  pub turn : Transitions world_behind (Rose (faults_of old.context) (faults_of new.context)) old.context new.context old.memory
+  pub turn : Transitions model_behind (Rose (faults_of old.context) (faults_of new.context)) old.context new.context old.memory
       new.memory (with_fuel old.fuel call) result
   pub more : new.answers.answers ≡ old.answers.answers ++ answer ∷ []
   pub next : new.next ≡ (if ends answer then length old.calls.items else suc old.next)
@@ -60,8 +60,8 @@ HasRoom run = length run.calls.items ≤ run.answers.spare + run.next
 
 -- a guest before its first turn over a tree
 pub record IsBegunOn (t : Tree) (plan : GuestPlan) (run : GuestRun) : Type 0 where
-  pub state : state_of world_behind run.context run.memory ≡ (starting t plan).state
-  pub untouched : (world_behind run.context.host).touched ≡ empty
+  pub state : state_of model_behind run.context run.memory ≡ (starting t plan).state
+  pub untouched : (model_behind run.context.host).touched ≡ empty
   pub unfailing : run.context.host.calls ≡ record { faults = []; calls = 0 }
   pub calls : map (with_fuel run.fuel) run.calls.items ≡ (starting t plan).calls
   pub first : run.next ≡ 0
@@ -81,8 +81,8 @@ abbrev pub joint_in : ℕ → List ℕ → ℕ → ℕ
 joint_in start joint n = if nat_lt n start then n else unwrap_or (slice_get joint (n - start)) n
 
 -- a node of a guest, with the numbers that nodes have for all
-abbrev pub joint_given : ℕ → GuestRun → ℕ → Given
-joint_given start run n = renumbered (joint_in start run.joint.items) (given_of (node_at (tree_of run) n))
+abbrev pub joint_node_data : ℕ → GuestRun → ℕ → NodeData
+joint_node_data start run n = renumbered (joint_in start run.joint.items) (data_of_node (node_at (tree_of run) n))
 
 -- what a guest came to
 abbrev pub end_of : GuestRun → End
@@ -127,11 +127,11 @@ pub record IsOver (g : Starting) (t : ℕ) (alone : AloneRun) (run : GuestRun) :
 -- a guest after so many turns is as its run alone leaves it
 pub record IsAt (g : Starting) (t : ℕ) (alone : AloneRun) (run : GuestRun) : Type 0 where
   pub calls : map (with_fuel run.fuel) run.calls.items ≡ g.calls
-  pub state : state_of world_behind run.context run.memory ≡ alone.last
+  pub state : state_of model_behind run.context run.memory ≡ alone.last
   pub answers : run.answers.answers ≡ answers_of alone.turns
   pub size : length run.memory ≡ length g.state.guest.memory
   pub unfailing : (faults_of run.context).most ≡ 0
-  pub confined : Confined g.state alone.last (world_behind run.context.host).touched
+  pub confined : Confined g.state alone.last (model_behind run.context.host).touched
   pub goes : IsGoing g t alone run ⊎ IsOver g t alone run
 
 -- the numbers for all of the nodes that a guest made, up to its next one, where these nodes were made by all
@@ -161,29 +161,29 @@ pub record AreAt (t : Tree) (guests : List Starting) (schedule : List ℕ) (runs
   pub fresh : All (λ one. next_of t ≤ one.1) made
 
 -- a node of a guest stands in its place in a list, if it has one there
-pub record IsPutAt (run : GuestRun) (n : ℕ) (old new : List Given) : Type 0 where
-  pub within : n < length old → new ≡ slice_set old n (joint_given (length old) run n)
+pub record IsPutAt (run : GuestRun) (n : ℕ) (old new : List NodeData) : Type 0 where
+  pub within : n < length old → new ≡ slice_set old n (joint_node_data (length old) run n)
   pub past : length old ≤ n → new ≡ old
 
 -- the nodes that a guest worked on stand in their places in a list, with the numbers that nodes have for all
-pub record IsPut (run : GuestRun) (old new : List Given) : Type 0 where
+pub record IsPut (run : GuestRun) (old new : List NodeData) : Type 0 where
   pub count : length new ≡ length old
   pub kept : (n : ℕ) → n < length old → contains (tree_of run).worked n ≡ true
-      → slice_get new n ≡ Some (joint_given (length old) run n)
+      → slice_get new n ≡ Some (joint_node_data (length old) run n)
   pub others : (n : ℕ) → contains (tree_of run).worked n ≡ false → slice_get new n ≡ slice_get old n
   pub touched : WorksOnTouched run.context.host.inner
 
 -- The nodes of the start with those that guests worked on, and behind them those that they made. Of a node that several
 -- worked on nothing is said
-pub record AreJoined (runs : List GuestRun) (made : List MadeNode) (old new : List Given) : Type 0 where
+pub record AreJoined (runs : List GuestRun) (made : List MadeNode) (old new : List NodeData) : Type 0 where
   pub kept : (i n : ℕ) (run : GuestRun) → slice_get runs i ≡ Some run → n < length old
       → contains (tree_of run).worked n ≡ true
       → ((j : ℕ) (other : GuestRun) → slice_get runs j ≡ Some other → j ≢ i → contains (tree_of other).worked n ≡ false)
-      → slice_get new n ≡ Some (joint_given (length old) run n)
+      → slice_get new n ≡ Some (joint_node_data (length old) run n)
   pub others : (n : ℕ) → n < length old
       → ((i : ℕ) (run : GuestRun) → slice_get runs i ≡ Some run → contains (tree_of run).worked n ≡ false)
       → slice_get new n ≡ slice_get old n
   pub touched : (i : ℕ) (run : GuestRun) → slice_get runs i ≡ Some run → WorksOnTouched run.context.host.inner
   pub behind : (p guest n : ℕ) (run : GuestRun) → slice_get made p ≡ Some (guest, n) → slice_get runs guest ≡ Some run
-      → slice_get new (length old + p) ≡ Some (joint_given (length old) run n)
+      → slice_get new (length old + p) ≡ Some (joint_node_data (length old) run n)
   pub count : length new ≡ length old + length made

@@ -13,7 +13,7 @@ use Rattle.wasi_report.specs.Guests.{GuestReport, GuestsReport, guests_text}
 use Rattle.wasi_report.specs.GuestsReadBack.{FitsGuests}
 use Rattle.wasi_setup.specs.ReportAfter.{bytes_shown}
 use Rattle.wasi_setup.specs.Start.{start, with_pieces}
-use Rattle.wasi_tree.specs.Given.{Given, tree_of}
+use Rattle.wasi_tree.specs.NodeData.{NodeData, tree_of}
 use Rattle.wasi_p1_types.specs.Front.{with_fuel}
 use Rattle.wasi_guests.specs.Alone.{End, Starting}
 use Rattle.wasi_guests.specs.AsIfAlone.{AsIfAlone}
@@ -91,14 +91,14 @@ ends_told shows ends = map (λ p. end_told p.0 p.1) (zip shows ends)
 abbrev pub shows_of : GuestsPlan → List (List Shown)
 shows_of plan = map (λ guest. guest.show) plan.guests
 
-abbrev pub guests_told : GuestsPlan → List End → List Given → GuestsReport
+abbrev pub guests_told : GuestsPlan → List End → List NodeData → GuestsReport
 guests_told plan ends nodes = record { guests = ends_told (shows_of plan) ends; tree = nodes }
 
 -- The text is that of what the guests of a plan come to in the turns of its schedule: each guest to what it comes to alone,
 -- and the nodes as `AsIfAlone` has them. All of it is in range, so that the text tells it.
 pub record TellsAsIfAlone (plan : GuestsPlan) (text : List ℕ) : Type 0 where
   pub ends : List End
-  pub nodes : List Given
+  pub nodes : List NodeData
   pub alone : AsIfAlone (tree_at_start plan) (map starting_by plan.guests) plan.schedule ends nodes
   pub fits : FitsGuests (guests_told plan ends nodes)
   pub text_is : text ≡ guests_text (guests_told plan ends nodes)

@@ -1,7 +1,7 @@
 -- The numbers that nodes have for all guests together.
 use Rattle.std.specs.Prelude.{ℕ, zero, suc, ◌+◌, ◌-◌, ◌==◌, ◌&&◌, List, [], ◌∷◌, ◌++◌, map, Option, Some, None, option_map, unwrap_or, slice_get, if◌then◌else◌}
 use Rattle.wasi_host.specs.Tree.{Tree, next_of}
-use Rattle.wasi_tree.specs.Given.{Given, GivenContent, file, directory, link}
+use Rattle.wasi_tree.specs.NodeData.{NodeData, ContentData, file, directory, link}
 use Rattle.wasi_p1_model.specs.Trace.{TraceStep}
 
 -- a node that a guest made: the guest, and the number that the node has for the guest alone
@@ -41,10 +41,10 @@ abbrev pub joint_number : Tree → List MadeNode → ℕ → ℕ → ℕ
 joint_number start made guest n = unwrap_or (option_map (λ before. next_of start + before) (made_before (guest, n) made)) n
 
 -- what a node is, with other numbers for the nodes that its names hold
-abbrev pub content_renumbered : (ℕ → ℕ) → GivenContent → GivenContent
+abbrev pub content_renumbered : (ℕ → ℕ) → ContentData → ContentData
 content_renumbered number (file bytes) = file bytes
 content_renumbered number (directory entries) = directory (map (λ e. (e.0, number e.1)) entries)
 content_renumbered number (link text) = link text
 
-abbrev pub renumbered : (ℕ → ℕ) → Given → Given
+abbrev pub renumbered : (ℕ → ℕ) → NodeData → NodeData
 renumbered number node = record node { content = content_renumbered number node.content }

@@ -1,12 +1,12 @@
 //! A guest between its turns.
 ghost use Rattle.std.specs.Prelude.{◌≡◌, ◌+◌, ◌++◌, ◌∷◌, ◌<◌, [], length, map, suc, if◌then◌else◌, IfOk, OnOk};
 ghost use Rattle.wasi_host.specs.Tree.{next_of};
-ghost use Rattle.wasi_tree.specs.Given.{given, given_content, pair_of};
+ghost use Rattle.wasi_tree.specs.NodeData.{node_data, content_data, pair_of};
 ghost use Rattle.wasi_report.specs.ReadBack.{HasRisingNames};
 ghost use Rattle.wasi_p1_model.specs.Trace.{ends};
 ghost use Rattle.wasi_guests.specs.Alone.{ended};
 ghost use Rattle.wasi_guests.specs.AsIfAlone.{MayBegin};
-ghost use Rattle.wasi_guests.specs.Between.{HasRoom, IsBegunOn, TakesItsTurn, end_of, joint_given, joint_in, tree_of};
+ghost use Rattle.wasi_guests.specs.Between.{HasRoom, IsBegunOn, TakesItsTurn, end_of, joint_node_data, joint_in, tree_of};
 ghost use Rattle.wasi_guests.specs.Joint.{content_renumbered};
 
 use crate::plan::{GuestEnd, GuestPlan};
@@ -137,8 +137,8 @@ impl<'a> GuestRun<'a> {
         node: u64,
     ) -> Result<NewNode, AllocError>
         requires { node < next_of (tree_of self.now) }
-        ensures joint { IfOk result (λ joint. given joint ≡ joint_given start self.now node) }
-        ensures rises { IfOk result (λ joint. HasRisingNames (given joint)) }
+        ensures joint { IfOk result (λ joint. node_data joint ≡ joint_node_data start self.now node) }
+        ensures rises { IfOk result (λ joint. HasRisingNames (node_data joint)) }
     {
         let NewNode {
             content,
@@ -163,8 +163,8 @@ impl<'a> GuestRun<'a> {
         start: u64,
         content: NewContent,
     ) -> Result<NewContent, AllocError>
-        ensures { IfOk result (λ joint. given_content joint
-            ≡ content_renumbered (joint_in start self.now.joint.items) (given_content content)) }
+        ensures { IfOk result (λ joint. content_data joint
+            ≡ content_renumbered (joint_in start self.now.joint.items) (content_data content)) }
     {
         match content {
             NewContent::File(bytes) => Ok(NewContent::File(bytes)),

@@ -39,7 +39,7 @@ fn read_from<S: Source, A: Allocator + Copy>(
     ensures cause { result ≡ Err GuestStatus.ReadFault → Risen (S.faults source.old) (S.faults source.new) }
     ensures can_run { IfOk result CanRunGuests }
     ensures some { ReadsSome result }
-    ensures read { IsTrue S.told → ReadsScript result (S.left source.old) (S.left source.new) }
+    ensures read { IsTrue S.modelled → ReadsScript result (S.left source.old) (S.left source.new) }
 {
     *buffer = read_all(alloc, source)?;
     Ok(read_guest_script(alloc, room, buffer.as_slice())?)
@@ -53,7 +53,7 @@ fn text_from<S: Source>(alloc: Global, source: &mut S) -> Result<Vec<u8>, GuestS
     ensures cause { result ≡ Err GuestStatus.ReadFault → Risen (S.faults source.old) (S.faults source.new) }
     ensures ends { IfErr result EndsReading }
     ensures some { GivesSome result }
-    ensures gives { IsTrue S.told → GivesText result (S.left source.old) (S.left source.new) }
+    ensures gives { IsTrue S.modelled → GivesText result (S.left source.old) (S.left source.new) }
 {
     let room = Bump::new(alloc);
     let mut bytes = Vec::new(alloc);
@@ -69,12 +69,12 @@ fn run_source<S: Source, K: Sink>(alloc: Global, source: &mut S, sink: &mut K) -
     ensures read_fault { result ≡ GuestStatus.ReadFault → Risen (S.faults source.old) (S.faults source.new) }
     ensures write_fault { result ≡ GuestStatus.WriteFault → Risen (K.faults sink.old) (K.faults sink.new) }
     ensures usage { result ≢ GuestStatus.Usage }
-    ensures exact { IsTrue S.told
+    ensures exact { IsTrue S.modelled
         → OfDue result true (S.left source.old) (λ due. IsStatus (extent result) result (status_of due)) }
-    ensures left { IsTrue S.told → Leaves (extent result) (S.left source.old) (S.left source.new) }
-    ensures nothing { IsTrue K.told → TookNone (extent result) (K.taken sink.old) (K.taken sink.new) }
-    ensures some { IsTrue K.told → WritesOfSome result true (K.taken sink.old) (K.taken sink.new) }
-    ensures writes { IsTrue S.told → IsTrue K.told → OfDue result true (S.left source.old)
+    ensures left { IsTrue S.modelled → Leaves (extent result) (S.left source.old) (S.left source.new) }
+    ensures nothing { IsTrue K.modelled → TookNone (extent result) (K.taken sink.old) (K.taken sink.new) }
+    ensures some { IsTrue K.modelled → WritesOfSome result true (K.taken sink.old) (K.taken sink.new) }
+    ensures writes { IsTrue S.modelled → IsTrue K.modelled → OfDue result true (S.left source.old)
         (λ due. Took (extent result) (IsText due) (K.taken sink.old) (K.taken sink.new)) }
 {
     match text_from(alloc, source) {
@@ -116,16 +116,16 @@ pub fn run_guest_script<S: Source, K: Sink>(
     ensures usage { result ≡ GuestStatus.Usage → is_run (map string_bytes words.now.items) ≡ false }
     ensures other_words { is_run (map string_bytes words.now.items) ≡ false
         → ((result ≡ GuestStatus.Usage) ⊎ (result ≡ GuestStatus.WriteFault)) × (source.new ≡ source.old) }
-    ensures exact { IsTrue S.told → OfDue result (is_run (map string_bytes words.now.items)) (S.left source.old)
+    ensures exact { IsTrue S.modelled → OfDue result (is_run (map string_bytes words.now.items)) (S.left source.old)
         (λ due. IsStatus (extent result) result (status_of due)) }
-    ensures left { IsTrue S.told → is_run (map string_bytes words.now.items) ≡ true
+    ensures left { IsTrue S.modelled → is_run (map string_bytes words.now.items) ≡ true
         → Leaves (extent result) (S.left source.old) (S.left source.new) }
-    ensures usage_line { IsTrue K.told → is_run (map string_bytes words.now.items) ≡ false
+    ensures usage_line { IsTrue K.modelled → is_run (map string_bytes words.now.items) ≡ false
         → Took (extent result) (IsText the_usage) (K.taken sink.old) (K.taken sink.new) }
-    ensures nothing { IsTrue K.told → TookNone (extent result) (K.taken sink.old) (K.taken sink.new) }
-    ensures some { IsTrue K.told → WritesOfSome result (is_run (map string_bytes words.now.items))
+    ensures nothing { IsTrue K.modelled → TookNone (extent result) (K.taken sink.old) (K.taken sink.new) }
+    ensures some { IsTrue K.modelled → WritesOfSome result (is_run (map string_bytes words.now.items))
         (K.taken sink.old) (K.taken sink.new) }
-    ensures writes { IsTrue S.told → IsTrue K.told
+    ensures writes { IsTrue S.modelled → IsTrue K.modelled
         → OfDue result (is_run (map string_bytes words.now.items)) (S.left source.old)
         (λ due. Took (extent result) (IsText due) (K.taken sink.old) (K.taken sink.new)) }
 {

@@ -1,10 +1,10 @@
 //! Several guests in turns over one tree.
 ghost use Rattle.std.specs.Prelude.{◌≡◌, ◌+◌, ◌<◌, ◌≤◌, ◌↔◌, length, map, All, IfOk, IsTrue, None, OnOk};
 ghost use Rattle.wasi_host.specs.Tree.{next_of};
-ghost use Rattle.wasi_tree.specs.Given.{given};
+ghost use Rattle.wasi_tree.specs.NodeData.{node_data};
 ghost use Rattle.wasi_report.specs.ReadBack.{HasRisingNames};
 ghost use Rattle.wasi_guests.specs.Alone.{ended, starting};
-ghost use Rattle.wasi_guests.specs.AsIfAlone.{AsIfAlone, IsOutcome, MayBegin, directories_given};
+ghost use Rattle.wasi_guests.specs.AsIfAlone.{AsIfAlone, IsOutcome, MayBegin, preopen_directories};
 ghost use Rattle.wasi_guests.specs.Between.{AreBegunOn, AreJoined, IsMadeBy, IsPut, IsPutAt, end_of, made_node, tree_of};
 ghost use Rattle.wasi_guests.specs.Insides.{IsLowestShared};
 
@@ -17,7 +17,7 @@ use wasi_tree::{MemTree, NewNode};
 
 // The directories of each guest.
 fn directories_of(alloc: Global, guests: &[GuestPlan]) -> Result<Vec<Vec<u64>>, AllocError>
-    ensures { IfOk result (λ all. map (λ one. one.items) all.items ≡ map directories_given guests.now) }
+    ensures { IfOk result (λ all. map (λ one. one.items) all.items ≡ map preopen_directories guests.now) }
 {
     let mut all = Vec::new(alloc);
     for guest in guests {
@@ -69,9 +69,9 @@ fn put_node(
 ) -> Result<(), AllocError>
     requires start { length nodes.old.items ≡ start }
     requires within { start ≤ next_of (tree_of run.now) }
-    ensures put { OnOk result (IsPutAt run.now node (map given nodes.old.items) (map given nodes.new.items)) }
+    ensures put { OnOk result (IsPutAt run.now node (map node_data nodes.old.items) (map node_data nodes.new.items)) }
     ensures count { length nodes.new.items ≡ start }
-    ensures rises { All HasRisingNames (map given nodes.old.items) → All HasRisingNames (map given nodes.new.items) }
+    ensures rises { All HasRisingNames (map node_data nodes.old.items) → All HasRisingNames (map node_data nodes.new.items) }
 {
     if node >= start {
         return Ok(());
@@ -90,9 +90,9 @@ fn put_kept(
 ) -> Result<(), AllocError>
     requires start { length nodes.old.items ≡ start }
     requires within { start ≤ next_of (tree_of run.now) }
-    ensures put { OnOk result (IsPut run.now (map given nodes.old.items) (map given nodes.new.items)) }
-    ensures rises { All HasRisingNames (map given nodes.old.items)
-        → OnOk result (All HasRisingNames (map given nodes.new.items)) }
+    ensures put { OnOk result (IsPut run.now (map node_data nodes.old.items) (map node_data nodes.new.items)) }
+    ensures rises { All HasRisingNames (map node_data nodes.old.items)
+        → OnOk result (All HasRisingNames (map node_data nodes.new.items)) }
 {
     let kept = run.tree().kept(alloc)?;
     for &node in kept.as_slice() {
@@ -110,10 +110,10 @@ fn joined(
 ) -> Result<Vec<NewNode>, AllocError>
     requires within { All (λ run. length nodes.items ≤ next_of (tree_of run)) runs.now }
     requires made { All (IsMadeBy runs.now) (map made_node made.now) }
-    ensures joined { IfOk result (λ all. AreJoined runs.now (map made_node made.now) (map given nodes.items)
-        (map given all.items)) }
-    ensures rises { All HasRisingNames (map given nodes.items)
-        → IfOk result (λ all. All HasRisingNames (map given all.items)) }
+    ensures joined { IfOk result (λ all. AreJoined runs.now (map made_node made.now) (map node_data nodes.items)
+        (map node_data all.items)) }
+    ensures rises { All HasRisingNames (map node_data nodes.items)
+        → IfOk result (λ all. All HasRisingNames (map node_data all.items)) }
 {
     let start = nodes.len() as u64;
     for run in runs {
@@ -145,10 +145,10 @@ fn run_apart(
 ) -> Result<GuestsOutcome, AllocError>
     requires begin { All (MayBegin base.now.tree) guests.items }
     requires named { All (λ guest. guest < length guests.items) schedule.now }
-    requires apart { IsLowestShared base.now.tree (map directories_given guests.items) None }
+    requires apart { IsLowestShared base.now.tree (map preopen_directories guests.items) None }
     ensures alone { IfOk result (λ outcome. AsIfAlone base.now.tree (map (starting base.now.tree) guests.items) schedule.now
-        (map ended outcome.guests.items) (map given outcome.nodes.items)) }
-    ensures ordered { IfOk result (λ outcome. All HasRisingNames (map given outcome.nodes.items)) }
+        (map ended outcome.guests.items) (map node_data outcome.nodes.items)) }
+    ensures ordered { IfOk result (λ outcome. All HasRisingNames (map node_data outcome.nodes.items)) }
     ensures sizes { IfOk result (λ outcome. map (λ end. length end.memory) outcome.guests.items
         ≡ map (λ guest. length guest.memory) guests.items) }
 {
@@ -181,10 +181,10 @@ pub fn run_guests(
 ) -> Result<GuestsOutcome, GuestsError>
     requires begin { All (MayBegin tree.tree) guests.items }
     requires named { All (λ guest. guest < length guests.items) schedule.now.items }
-    ensures outcome { IsOutcome tree.tree (map directories_given guests.items) (length schedule.now.items) result
+    ensures outcome { IsOutcome tree.tree (map preopen_directories guests.items) (length schedule.now.items) result
         (λ outcome. AsIfAlone tree.tree (map (starting tree.tree) guests.items) schedule.now.items
-        (map ended outcome.guests.items) (map given outcome.nodes.items)) }
-    ensures ordered { IfOk result (λ outcome. All HasRisingNames (map given outcome.nodes.items)) }
+        (map ended outcome.guests.items) (map node_data outcome.nodes.items)) }
+    ensures ordered { IfOk result (λ outcome. All HasRisingNames (map node_data outcome.nodes.items)) }
     ensures sizes { IfOk result (λ outcome. map (λ end. length end.memory) outcome.guests.items
         ≡ map (λ guest. length guest.memory) guests.items) }
 {

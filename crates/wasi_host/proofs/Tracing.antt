@@ -2,7 +2,7 @@
 use Rattle.std.proofs.Common.{◌≡◌, ◌⊎◌, inl, inr, ℕ, List, [], ◌∷◌, ◌++◌, Option, Some, None, Result, Ok, Err, refl, sym, ap, ◌∙◌, append_assoc}
 use Rattle.std.proofs.lemmas.List.{append-nil}
 use Rattle.wasi_host.specs.HostLaws.{Handles, Logged, LoggedErr, MaybeLogged, LoggedGotErr, MaybeLoggedGot, one_looked, both_looked}
-use Rattle.wasi_host.specs.Lineage.{OrGot, OrGotIn, HasLineage, HasProvenance, Only, OneOf, Nothing}
+use Rattle.wasi_host.specs.Provenance.{OrGot, OrGotIn, LookupsHaveProvenance, HasProvenance, Only, OneOf, Nothing}
 use Rattle.wasi_host.specs.declared.errors.ErrorCode.TheVariants.{Io}
 use Rattle.wasi_host.specs.declared.errors.HostError.{HostError}
 use Rattle.wasi_host.specs.declared.errors.HostError.TheVariants.{Code, Memory}
@@ -21,11 +21,11 @@ pub got_in_more : (A B : ℕ → Type 0) → ((h : ℕ) → A h → B h) → (pi
 got_in_more A B more [] h has = more h has
 got_in_more A B more (entry ∷ rest) h has = got_in_more (OrGot A entry.got) (OrGot B entry.got) (or_got_more A B more entry.got) rest h has
 
-pub lineage_more : (A B : ℕ → Type 0) → ((h : ℕ) → A h → B h) → (piece : List Lookup) → HasLineage A piece
-    → HasLineage B piece
-lineage_more A B more [] has = tt
-lineage_more A B more (entry ∷ rest) has =
-    (more entry.from has.0, lineage_more (OrGot A entry.got) (OrGot B entry.got) (or_got_more A B more entry.got) rest has.1)
+pub provenance_more : (A B : ℕ → Type 0) → ((h : ℕ) → A h → B h) → (piece : List Lookup) → LookupsHaveProvenance A piece
+    → LookupsHaveProvenance B piece
+provenance_more A B more [] has = tt
+provenance_more A B more (entry ∷ rest) has =
+    (more entry.from has.0, provenance_more (OrGot A entry.got) (OrGot B entry.got) (or_got_more A B more entry.got) rest has.1)
 
 known_still : (A : ℕ → Type 0) (got : Option ℕ) (h : ℕ) → A h → OrGot A got h
 known_still A None h has = has
@@ -37,10 +37,10 @@ in_still A (entry ∷ rest) h has = in_still (OrGot A entry.got) rest h (known_s
 
 -- ---- a piece behind another
 
-lineage-append : (A : ℕ → Type 0) (xs ys : List Lookup) → HasLineage A xs → HasLineage (OrGotIn A xs) ys
-    → HasLineage A (xs ++ ys)
-lineage-append A [] ys first second = second
-lineage-append A (x ∷ xs) ys first second = (first.0, lineage-append (OrGot A x.got) xs ys first.1 second)
+provenance-append : (A : ℕ → Type 0) (xs ys : List Lookup) → LookupsHaveProvenance A xs → LookupsHaveProvenance (OrGotIn A xs) ys
+    → LookupsHaveProvenance A (xs ++ ys)
+provenance-append A [] ys first second = second
+provenance-append A (x ∷ xs) ys first second = (first.0, provenance-append (OrGot A x.got) xs ys first.1 second)
 
 got_in-append : (A : ℕ → Type 0) (xs ys : List Lookup) (h : ℕ) → OrGotIn (OrGotIn A xs) ys h → OrGotIn A (xs ++ ys) h
 got_in-append A [] ys h has = has
@@ -53,8 +53,8 @@ pub traced_then : {Given Given' Kept Mid Kept' : ℕ → Type 0} {a b c : List L
 traced_then {Given} {Given'} {Kept} {Mid} {Kept'} {a} {b} {c} own from first second = record {
   piece = first.piece ++ second.piece;
   adds = second.adds ∙ ap (λ l. l ++ second.piece) first.adds ∙ append_assoc a first.piece second.piece;
-  lineage = lineage-append Given first.piece second.piece first.lineage
-      (lineage_more Given' (OrGotIn Given first.piece) (λ h has. got_in_more Kept Given own first.piece h (first.ends h (from h has))) second.piece second.lineage);
+  provenance = provenance-append Given first.piece second.piece first.provenance
+      (provenance_more Given' (OrGotIn Given first.piece) (λ h has. got_in_more Kept Given own first.piece h (first.ends h (from h has))) second.piece second.provenance);
   ends = λ h has. got_in-append Kept first.piece second.piece h (got_in_more Mid (OrGotIn Kept first.piece) first.ends second.piece h (second.ends h has));
 }
 
@@ -62,11 +62,11 @@ traced_then {Given} {Given'} {Kept} {Mid} {Kept'} {a} {b} {c} own from first sec
 
 pub traced_none : (Given Kept Kept' : ℕ → Type 0) (old new : List Lookup) → new ≡ old → ((h : ℕ) → Kept' h → Kept h)
     → HasProvenance Given Kept Kept' old new
-traced_none Given Kept Kept' old new same less = record { piece = []; adds = same ∙ sym (append-nil old); lineage = tt; ends = less }
+traced_none Given Kept Kept' old new same less = record { piece = []; adds = same ∙ sym (append-nil old); provenance = tt; ends = less }
 
 traced_one : (Given Kept Kept' : ℕ → Type 0) (old new : List Lookup) (entry : Lookup) → Given entry.from
     → new ≡ old ++ entry ∷ [] → ((h : ℕ) → Kept' h → OrGot Kept entry.got h) → HasProvenance Given Kept Kept' old new
-traced_one Given Kept Kept' old new entry is adds ends = record { piece = entry ∷ []; adds = adds; lineage = (is, tt); ends = ends }
+traced_one Given Kept Kept' old new entry is adds ends = record { piece = entry ∷ []; adds = adds; provenance = (is, tt); ends = ends }
 
 -- a call that got a handle
 pub traced_got : (old new : List Lookup) (kind : LookKind) (from h : ℕ)
@@ -92,24 +92,24 @@ traced_got_err live old new kind from (Code code) logged =
     traced_one (Only from) Nothing Nothing old new (record { kind = kind; from = from; got = None }) refl logged (λ q none. absurd none)
 
 -- a call that gets no handle
-traced_piece : {Given : ℕ → Type 0} {old new : List Lookup} (piece : List Lookup) → HasLineage Given piece
+traced_piece : {Given : ℕ → Type 0} {old new : List Lookup} (piece : List Lookup) → LookupsHaveProvenance Given piece
     → new ≡ old ++ piece → HasProvenance Given Nothing Nothing old new
-traced_piece piece has adds = record { piece = piece; adds = adds; lineage = has; ends = λ h none. absurd none }
+traced_piece piece has adds = record { piece = piece; adds = adds; provenance = has; ends = λ h none. absurd none }
 
-maybe_traced : {Given : ℕ → Type 0} {old new : List Lookup} (piece : List Lookup) → HasLineage Given piece
+maybe_traced : {Given : ℕ → Type 0} {old new : List Lookup} (piece : List Lookup) → LookupsHaveProvenance Given piece
     → MaybeLogged old piece new → HasProvenance Given Nothing Nothing old new
 maybe_traced {Given} {old} {new} piece has logged = elim logged [
   | inl same ↦ traced_none Given Nothing Nothing old new same (λ q none. none)
   | inr adds ↦ traced_piece piece has adds
 ]
 
-traced_err : {Given : ℕ → Type 0} {old new : List Lookup} (piece : List Lookup) → HasLineage Given piece
+traced_err : {Given : ℕ → Type 0} {old new : List Lookup} (piece : List Lookup) → LookupsHaveProvenance Given piece
     → (e : HostError) → LoggedErr old piece e new → HasProvenance Given Nothing Nothing old new
 traced_err piece has Memory logged = maybe_traced piece has logged
 traced_err piece has (Code Io) logged = maybe_traced piece has logged
 traced_err piece has (Code code) logged = traced_piece piece has logged
 
-traced_logged : {A : Type 0} {Given : ℕ → Type 0} {old new : List Lookup} (piece : List Lookup) → HasLineage Given piece
+traced_logged : {A : Type 0} {Given : ℕ → Type 0} {old new : List Lookup} (piece : List Lookup) → LookupsHaveProvenance Given piece
     → (r : Result A HostError) → Logged old piece r new → HasProvenance Given Nothing Nothing old new
 traced_logged piece has (Ok a) logged = traced_piece piece has logged
 traced_logged piece has (Err e) logged = traced_err piece has e logged
@@ -129,13 +129,13 @@ traced_two kind old new r logged = traced_logged (both_looked kind old new) (inl
 -- calls that add none before or after
 pub traced_same : {Given Kept Kept' : ℕ → Type 0} {old new : List Lookup} (now : List Lookup) → now ≡ new
     → HasProvenance Given Kept Kept' old new → HasProvenance Given Kept Kept' old now
-traced_same now same traced = record { piece = traced.piece; adds = same ∙ traced.adds; lineage = traced.lineage; ends = traced.ends }
+traced_same now same traced = record { piece = traced.piece; adds = same ∙ traced.adds; provenance = traced.provenance; ends = traced.ends }
 
 -- other handles are given
 pub traced_given : {Given Kept Kept' : ℕ → Type 0} {old new : List Lookup} (Given' : ℕ → Type 0)
     → ((h : ℕ) → Given h → Given' h) → HasProvenance Given Kept Kept' old new → HasProvenance Given' Kept Kept' old new
 traced_given {Given} Given' more traced =
-    record { piece = traced.piece; adds = traced.adds; lineage = lineage_more Given Given' more traced.piece traced.lineage; ends = traced.ends }
+    record { piece = traced.piece; adds = traced.adds; provenance = provenance_more Given Given' more traced.piece traced.provenance; ends = traced.ends }
 
 -- other handles are kept: each was kept, or is one that the piece got
 pub traced_kept : {Given Made : ℕ → Type 0} {old new : List Lookup} (Kept Kept' : ℕ → Type 0)
@@ -143,7 +143,7 @@ pub traced_kept : {Given Made : ℕ → Type 0} {old new : List Lookup} (Kept Ke
 traced_kept Kept Kept' each traced = record {
   piece = traced.piece;
   adds = traced.adds;
-  lineage = traced.lineage;
+  provenance = traced.provenance;
   ends =
       λ h has. elim (each h has) [ inl kept ↦ in_still Kept traced.piece h kept | inr made ↦ got_in_more Nothing Kept (λ q none. absurd none) traced.piece h (traced.ends h made) ];
 }
@@ -154,9 +154,9 @@ pub traced_last : {Given Given' Mid Made : ℕ → Type 0} {a b c : List Lookup}
 traced_last {Given} {Given'} {a = a} from first second = record {
   piece = first.piece ++ second.piece;
   adds = second.adds ∙ ap (λ l. l ++ second.piece) first.adds ∙ append_assoc a first.piece second.piece;
-  lineage = lineage-append Given first.piece second.piece first.lineage
-      (lineage_more Given' (OrGotIn Given first.piece) (λ h has. first.ends h
-      (from h has)) second.piece second.lineage);
+  provenance = provenance-append Given first.piece second.piece first.provenance
+      (provenance_more Given' (OrGotIn Given first.piece) (λ h has. first.ends h
+      (from h has)) second.piece second.provenance);
   ends =
       λ h has. got_in-append Nothing first.piece second.piece h (got_in_more Nothing (OrGotIn Nothing first.piece)
       (λ q none. absurd none) second.piece h (second.ends h has));
@@ -166,7 +166,7 @@ traced_last {Given} {Given'} {a = a} from first second = record {
 pub traced_less : {Given Kept Kept' : ℕ → Type 0} {old new : List Lookup} → HasProvenance Given Kept Kept' old new
     → HasProvenance Given Nothing Nothing old new
 traced_less traced =
-    record { piece = traced.piece; adds = traced.adds; lineage = traced.lineage; ends = λ h none. absurd none }
+    record { piece = traced.piece; adds = traced.adds; provenance = traced.provenance; ends = λ h none. absurd none }
 
 -- a second call from the same handle, the first of which made nothing
 pub traced_twice : {from : ℕ} {Made : ℕ → Type 0} {a b c : List Lookup} → HasProvenance (Only from) Nothing Nothing a b

@@ -12,7 +12,7 @@ use Rattle.wasi_host.specs.Below.{is_below}
 use Rattle.wasi_host.specs.ValidTree.{are_bytes, has_nul, is_entry_name, names_for, name_count, Reached, IsValidContent, IsValidTree}
 use Rattle.wasi_host.specs.Options.{Options}
 use Rattle.wasi_host.specs.HostCall.{HostCall, OpenAt, StatAt, ReadLinkAt, MakeDirAt, SymlinkAt, LinkAt, RenameAt, UnlinkAt, RemoveDirAt, TimesAt, Access, Stat, SetTimes, Pread, Pwrite, Append, SetSize, Sync, Advise, Flags, ListDir, Dup, Close, CanBeAsked}
-use Rattle.wasi_host.specs.Refusal.{refusal, first_rule, is_too_large, directory_row, name_rows, both_rows, growing_rows, making_rows, linking_rows, source_rows, naming_rows, loop_rows, moving_rows, renaming_rows, text_rows}
+use Rattle.wasi_host.specs.Refusal.{refusal, first_rule, is_too_large, directory_rule, name_rules, both_rules, growing_rules, making_rules, linking_rules, source_rules, naming_rules, loop_rules, moving_rules, renaming_rules, text_rules}
 use Rattle.wasi_host.specs.Step.{with_nodes, directory_made, link_made, with_content, content_changed, other_bytes, with_size, size_set, is_cut, file_cut, opened_step, open_step, bytes_put, write_step, one_name_less, made_gone, dropped_step, unlink_step, remove_step, rename_step, moved_step, name_lost, name_moved, link_step, added_step, with_times, times_set, times_set_if, times_step, step, with_piece}
 use Rattle.wasi_host.specs.declared.errors.ErrorCode.{ErrorCode}
 use Rattle.wasi_host.specs.declared.errors.ErrorCode.TheVariants.{Exist}
@@ -166,27 +166,27 @@ pub record CanLook (t : Tree) (d : ℕ) (name : List ℕ) : Type 0 where
   pub no_nul : has_nul name ≡ false
   pub short : is_long name ≡ false
 
-is_directory_row : (t : Tree) (d : ℕ) → first_rule (directory_row t d) ≡ None → is_directory (node_at t d).content ≡ true
-is_directory_row t d none = grind arith
+is_directory_rule : (t : Tree) (d : ℕ) → first_rule (directory_rule t d) ≡ None → is_directory (node_at t d).content ≡ true
+is_directory_rule t d none = grind arith
 
-can_look : (t : Tree) (d : ℕ) (name : List ℕ) → first_rule (directory_row t d) ≡ None
-    → first_rule (name_rows t d name) ≡ None → CanLook t d name
+can_look : (t : Tree) (d : ℕ) (name : List ℕ) → first_rule (directory_rule t d) ≡ None
+    → first_rule (name_rules t d name) ≡ None → CanLook t d name
 can_look t d name first none = record {
-  directory = is_directory_row t d first;
+  directory = is_directory_rule t d first;
   no_nul = grind arith;
   short = grind arith;
 }
 
 -- of two names
 can_look_both : (t : Tree) (old : ℕ) (old_name : List ℕ) (new : ℕ) (new_name : List ℕ)
-    → first_rule (both_rows t old old_name new new_name) ≡ None
+    → first_rule (both_rules t old old_name new new_name) ≡ None
     → (is_directory (node_at t old).content ≡ true) × CanLook t new new_name
 can_look_both t old old_name new new_name none =
-    let names : List (Bool × ErrorCode) = name_rows t old old_name ++ name_rows t new new_name in
-    let first = none_refuses (directory_row t old) (directory_row t new ++ names) none in
-    let second = none_refuses (directory_row t new) names first.1 in
-    let third = none_refuses (name_rows t old old_name) (name_rows t new new_name) second.1 in
-    (is_directory_row t old first.0, can_look t new new_name second.0 third.1)
+    let names : List (Bool × ErrorCode) = name_rules t old old_name ++ name_rules t new new_name in
+    let first = none_refuses (directory_rule t old) (directory_rule t new ++ names) none in
+    let second = none_refuses (directory_rule t new) names first.1 in
+    let third = none_refuses (name_rules t old old_name) (name_rules t new new_name) second.1 in
+    (is_directory_rule t old first.0, can_look t new new_name second.0 third.1)
 
 pub can_open : (t : Tree) (d : ℕ) (name : List ℕ) (o : Options) → refusal t (OpenAt d name o) ≡ None
     → CanLook t d name
@@ -212,13 +212,13 @@ can_make_file t d name o none missing = record {
 
 -- with these rows before those of the name
 making : (t : Tree) (d : ℕ) (name : List ℕ) (before : List (Bool × ErrorCode))
-    → first_rule (directory_row t d ++ (before ++ making_rows t d name)) ≡ None
+    → first_rule (directory_rule t d ++ (before ++ making_rules t d name)) ≡ None
     → (first_rule before ≡ None) × CanMake t d name
 making t d name before none =
-    let made : List (Bool × ErrorCode) = (is_some (child t d name), Exist) ∷ growing_rows t d in
-    let first = none_refuses (directory_row t d) (before ++ making_rows t d name) none in
-    let second = none_refuses before (making_rows t d name) first.1 in
-    let third = none_refuses (name_rows t d name) made second.1 in
+    let made : List (Bool × ErrorCode) = (is_some (child t d name), Exist) ∷ growing_rules t d in
+    let first = none_refuses (directory_rule t d) (before ++ making_rules t d name) none in
+    let second = none_refuses before (making_rules t d name) first.1 in
+    let third = none_refuses (name_rules t d name) made second.1 in
     let free = third.1 in (
       second.0,
       record {
@@ -234,7 +234,7 @@ unfolding refusal
 can_make_directory t d name none = (making t d name [] none).1
 
 -- of the text of a link
-text_fits : (text : List ℕ) → first_rule (text_rows text) ≡ None
+text_fits : (text : List ℕ) → first_rule (text_rules text) ≡ None
     → (0 < length text) × (length text ≤ longest_link) × (has_nul text ≡ false)
 text_fits [] none = absurd (cc)
 text_fits (byte ∷ text) none = (omega arith, grind arith, grind arith)
@@ -243,7 +243,7 @@ pub can_make_link : (t : Tree) (d : ℕ) (name text : List ℕ) → refusal t (S
     → CanMake t d name × ((0 < length text) × (length text ≤ longest_link) × (has_nul text ≡ false))
 unfolding refusal
 can_make_link t d name text none =
-    let rows = making t d name (text_rows text) none in
+    let rows = making t d name (text_rules text) none in
     (rows.1, text_fits text rows.0)
 
 -- of a name that is to go
@@ -268,7 +268,7 @@ pub record CanAdd (t : Tree) (old new n : ℕ) (new_name : List ℕ) : Type 0 wh
   pub leaf : is_directory (node_at t n).content ≡ false
   pub room : links_of (node_at t n).content < t.limits.links
 
-linking : (t : Tree) (new n : ℕ) (there : Option ℕ) → first_rule (linking_rows t new (Some n) there) ≡ None
+linking : (t : Tree) (new n : ℕ) (there : Option ℕ) → first_rule (linking_rules t new (Some n) there) ≡ None
     → (there ≡ None) × (is_gone (node_at t new).content ≡ false) × (is_directory (node_at t n).content ≡ false)
     × (links_of (node_at t n).content < t.limits.links)
 linking t new n there none = (grind arith, grind arith, grind arith, grind arith)
@@ -278,10 +278,10 @@ pub can_add : (t : Tree) (old new n : ℕ) (old_name new_name : List ℕ) → re
 unfolding refusal
 can_add t old new n old_name new_name none found =
     let there : Option ℕ = child t new new_name in
-    let parts = none_refuses (both_rows t old old_name new new_name) (linking_rows t new (child t old old_name) there) none in
+    let parts = none_refuses (both_rules t old old_name new new_name) (linking_rules t new (child t old old_name) there) none in
     let both = can_look_both t old old_name new new_name parts.0 in
     let free = linking t new n there
-    (subst (λ named. first_rule (linking_rows t new named there) ≡ None) found parts.1) in
+    (subst (λ named. first_rule (linking_rules t new named there) ≡ None) found parts.1) in
     record {
       old_directory = both.0;
       looks = both.1;
@@ -299,32 +299,32 @@ pub record CanRename (t : Tree) (old : ℕ) (old_name : List ℕ) (new : ℕ) (n
   pub plain : is_dot_text new_name ≡ false
 
 source : (t : Tree) (old_name new_name : List ℕ) (requires_dir : Bool) (found : Option ℕ)
-    → first_rule (source_rows t old_name new_name requires_dir found) ≡ None
+    → first_rule (source_rules t old_name new_name requires_dir found) ≡ None
     → (is_dot_text old_name ≡ false) × (is_dot_text new_name ≡ false)
 source t old_name new_name requires_dir found none = (grind arith, grind arith)
 
 pub can_rename : (t : Tree) (old : ℕ) (old_name : List ℕ) (new : ℕ) (new_name : List ℕ) (requires_dir : Bool)
-    → first_rule (naming_rows t old old_name new new_name requires_dir) ≡ None
+    → first_rule (naming_rules t old old_name new new_name requires_dir) ≡ None
     → CanRename t old old_name new new_name
 can_rename t old old_name new new_name requires_dir none =
     let found : Option ℕ = child t old old_name in
-    let parts = none_refuses (both_rows t old old_name new new_name)
-    (source_rows t old_name new_name requires_dir found) none in
+    let parts = none_refuses (both_rules t old old_name new new_name)
+    (source_rules t old_name new_name requires_dir found) none in
     let both = can_look_both t old old_name new new_name parts.0 in
     let plain = source t old_name new_name requires_dir found parts.1 in
     record { old_directory = both.0; looks = both.1; old_plain = plain.0; plain = plain.1 }
 
 -- a node doesn't come below itself
-pub not_below : (t : Tree) (old new n : ℕ) (there : Option ℕ) → first_rule (loop_rows t old new (Some n) there) ≡ None
+pub not_below : (t : Tree) (old new n : ℕ) (there : Option ℕ) → first_rule (loop_rules t old new (Some n) there) ≡ None
     → is_below t n new ≡ false
 not_below t old new n there none = grind arith
 
 -- what it replaces has no names
-pub replaces : (t : Tree) (old new n m : ℕ) → first_rule (moving_rows t old new (Some n) (Some m)) ≡ None
+pub replaces : (t : Tree) (old new n m : ℕ) → first_rule (moving_rules t old new (Some n) (Some m)) ≡ None
     → is_directory (node_at t m).content ≡ true → maps.len (names_of (node_at t m).content) ≡ 0
 replaces t old new n m none directory = grind arith
 
-gets_names : (t : Tree) (old new n : ℕ) (there : Option ℕ) → first_rule (moving_rows t old new (Some n) there) ≡ None
+gets_names : (t : Tree) (old new n : ℕ) (there : Option ℕ) → first_rule (moving_rules t old new (Some n) there) ≡ None
     → is_gone (node_at t new).content ≡ false
 gets_names t old new n there none = grind arith
 
@@ -342,12 +342,12 @@ may_move : (t : Tree) (old : ℕ) (old_name : List ℕ) (new : ℕ) (new_name : 
 unfolding refusal
 may_move t old old_name new new_name requires_dir n none found two =
     let there : Option ℕ = child t new new_name in
-    let moving : List (Bool × ErrorCode) = moving_rows t old new (Some n) there in
-    let parts = none_refuses (naming_rows t old old_name new new_name requires_dir)
-    (renaming_rows t old new (child t old old_name) there) none in
-    let later : first_rule (renaming_rows t old new (Some n) there) ≡ None =
-    subst (λ named. first_rule (renaming_rows t old new named there) ≡ None) found parts.1 in
-    let free = none_refuses (loop_rows t old new (Some n) there) (cond (hold_one (Some n) there) [] moving) later in
+    let moving : List (Bool × ErrorCode) = moving_rules t old new (Some n) there in
+    let parts = none_refuses (naming_rules t old old_name new new_name requires_dir)
+    (renaming_rules t old new (child t old old_name) there) none in
+    let later : first_rule (renaming_rules t old new (Some n) there) ≡ None =
+    subst (λ named. first_rule (renaming_rules t old new named there) ≡ None) found parts.1 in
+    let free = none_refuses (loop_rules t old new (Some n) there) (cond (hold_one (Some n) there) [] moving) later in
     let moves : first_rule moving ≡ None =
     subst (λ b. first_rule (cond b [] moving) ≡ None) (ap (λ named. hold_one named there) (sym found) ∙ two) free.1 in
     record {
@@ -355,7 +355,7 @@ may_move t old old_name new new_name requires_dir n none found two =
       below = not_below t old new n there free.0;
       stays = gets_names t old new n there moves;
       bare = λ m holds. replaces t old new n m
-          (subst (λ named. first_rule (moving_rows t old new (Some n) named) ≡ None) holds moves);
+          (subst (λ named. first_rule (moving_rules t old new (Some n) named) ≡ None) holds moves);
     }
 
 -- ---- the names of the calls

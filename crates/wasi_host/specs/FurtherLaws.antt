@@ -3,7 +3,7 @@
 use Rattle.std.specs.Prelude.{◌≡◌, ◌⊎◌, ℕ, ◌+◌, Bool, true, false, Result, Ok, Err}
 use Rattle.wasi_host.specs.Answer.{HostAnswer, host_answer}
 use Rattle.wasi_host.specs.HostCall.{HostCall}
-use Rattle.wasi_host.specs.HostLaws.{Handles, Told, World, Stepped, Looked, AfterErr}
+use Rattle.wasi_host.specs.HostLaws.{Handles, RefinesCall, HostModel, Stepped, Looked, AfterErr}
 use Rattle.wasi_host.specs.Tree.{Tree}
 use Rattle.wasi_host.specs.declared.errors.ErrorCode.{ErrorCode}
 use Rattle.wasi_host.specs.declared.errors.ErrorCode.TheVariants.{Io}
@@ -42,31 +42,31 @@ abbrev pub Follow : Others → Others → Type 0
 Follow old new = (n : ℕ) (t : Tree) → new n t ≡ old (n + 1) t
 
 -- what the last call left, with the tree as others have changed it since
-abbrev pub changed_to : Tree → World → World
+abbrev pub changed_to : Tree → HostModel → HostModel
 changed_to tree left = record left { tree = tree }
 
 -- A call does to what it finds what a call of a told host does to its world; or it failed before it was made
-abbrev pub Finds : {A : Type 0} → Handles → Handles → World → Tree → World → (call : HostCall) → (A → HostAnswer call)
+abbrev pub Finds : {A : Type 0} → Handles → Handles → HostModel → Tree → HostModel → (call : HostCall) → (A → HostAnswer call)
     → Result A HostError → Type 0
 Finds old new left found after call shown result =
-    Told old new (changed_to found left) after call shown result ⊎ ((has_failed result ≡ true) × (after ≡ left))
+    RefinesCall old new (changed_to found left) after call shown result ⊎ ((has_failed result ≡ true) × (after ≡ left))
 
 -- what a call does whose row answers this: its one step, or none where it is refused
-abbrev pub EffectOf : {A : Type 0} → Result A ErrorCode → HostCall → World → World → Type 0
+abbrev pub EffectOf : {A : Type 0} → Result A ErrorCode → HostCall → HostModel → HostModel → Type 0
 EffectOf (Ok a) call w v = Stepped w call v
 EffectOf (Err code) call w v = Looked w call v
 
 -- a call does what the table says, whatever came of its answer
-abbrev pub TakesEffect : HostCall → World → World → Type 0
+abbrev pub TakesEffect : HostCall → HostModel → HostModel → Type 0
 TakesEffect call w v = EffectOf (host_answer w.tree call) call w v
 
 -- or memory was wanted, and the tree stays
-abbrev pub MayTakeEffect : HostCall → World → World → Type 0
+abbrev pub MayTakeEffect : HostCall → HostModel → HostModel → Type 0
 MayTakeEffect call w v = TakesEffect call w v ⊎ AfterErr w call Memory v
 
 -- What a call leaves that fails by itself: all as it was, where it wasn't made; what the call does that was asked for,
 -- where it was made and its answer lost
-abbrev pub Leaves : InjectedFault → World → Tree → World → (World → World → Type 0) → Type 0
+abbrev pub Leaves : InjectedFault → HostModel → Tree → HostModel → (HostModel → HostModel → Type 0) → Type 0
 Leaves Passes left found after Effect = Unit {0}
 Leaves FailsBefore left found after Effect = after ≡ left
 Leaves FailsAfter left found after Effect = Effect (changed_to found left) after

@@ -20,13 +20,13 @@ abbrev pub Handles : Type 0
 Handles = FinSet nat_cmp
 
 -- what a told host tells: its tree, what each live handle stands for, and the touched nodes
-pub record World : Type 0 where
+pub record HostModel : Type 0 where
   pub tree : Tree
   pub held : ℕ → OpenHandle
   pub touched : Nodes
 
 -- the world with no node touched
-abbrev pub forgotten : World → World
+abbrev pub forgotten : HostModel → HostModel
 forgotten w = record w { touched = empty }
 
 -- how often a host has failed by itself, and how often it fails at most
@@ -117,32 +117,32 @@ Means shown meant (Ok a) = meant ≡ Ok (shown a)
 Means shown meant (Err e) = MeansErr meant e
 
 -- the step was made, and the nodes that the call comes to, with those that it made, are touched
-pub record Stepped (w : World) (call : HostCall) (v : World) : Type 0 where
+pub record Stepped (w : HostModel) (call : HostCall) (v : HostModel) : Type 0 where
   pub tree : v.tree ≡ step w.tree call
   pub touched : v.touched ≡ with_nodes w.touched (found_by w.tree call ++ made_by w.tree call)
 
 -- the tree stays, and the nodes that the call comes to are touched
-pub record Looked (w : World) (call : HostCall) (v : World) : Type 0 where
+pub record Looked (w : HostModel) (call : HostCall) (v : HostModel) : Type 0 where
   pub tree : v.tree ≡ w.tree
   pub touched : v.touched ≡ with_nodes w.touched (found_by w.tree call)
 
 -- the tree stays, and nothing is touched
-pub record Stayed (w v : World) : Type 0 where
+pub record Stayed (w v : HostModel) : Type 0 where
   pub tree : v.tree ≡ w.tree
   pub touched : v.touched ≡ w.touched
 
-abbrev pub AfterErr : World → HostCall → HostError → World → Type 0
+abbrev pub AfterErr : HostModel → HostCall → HostError → HostModel → Type 0
 AfterErr w call Memory v = Stayed w v ⊎ Looked w call v
 AfterErr w call (Code Io) v = Stayed w v ⊎ (Looked w call v ⊎ ((refusal w.tree call ≡ None) × Stepped w call v))
 AfterErr w call (Code code) v = Looked w call v
 
 -- the tree and the touched nodes after a call: a fault may hide its step
-abbrev pub After : {A : Type 0} → World → HostCall → Result A HostError → World → Type 0
+abbrev pub After : {A : Type 0} → HostModel → HostCall → Result A HostError → HostModel → Type 0
 After w call (Ok a) v = Stepped w call v
 After w call (Err e) v = AfterErr w call e v
 
 -- handles that are live before and after keep their node and access
-abbrev pub Keeps : Handles → Handles → World → World → Type 0
+abbrev pub Keeps : Handles → Handles → HostModel → HostModel → Type 0
 Keeps old new w v = (h : ℕ) → contains old h ≡ true → contains new h ≡ true → v.held h ≡ w.held h
 
 -- a handle's node is a node of the tree, and a file where the handle was opened for writing
@@ -151,11 +151,11 @@ pub record IsHeld (t : Tree) (held : OpenHandle) : Type 0 where
   pub writes_file : can_write held.mode ≡ true → is_file (node_at t held.node).content ≡ true
 
 -- each live handle stands for such a node
-pub record AllHeld (live : Handles) (w : World) : Type 0 where
+pub record AllHeld (live : Handles) (w : HostModel) : Type 0 where
   pub each : (h : ℕ) → contains live h ≡ true → IsHeld w.tree (w.held h)
 
 -- what a call of a told host does: it answers by the table, and makes its one step where it answers Ok
-pub record Told {A : Type 0} (old new : Handles) (w v : World) (call : HostCall) (shown : A → HostAnswer call)
+pub record RefinesCall {A : Type 0} (old new : Handles) (w v : HostModel) (call : HostCall) (shown : A → HostAnswer call)
     (result : Result A HostError) : Type 0 where
   pub meaning : Means shown (host_answer w.tree call) result
   pub after : After w call result v

@@ -12,9 +12,9 @@ pub trait Forget: Host {
         ensures faults { Self.faults self.new ≡ Self.faults self.old }
         ensures live { Self.live self.new ≡ Self.live self.old }
         ensures logged { Self.lookups self.new ≡ Self.lookups self.old }
-        ensures world { IsTrue Self.told → Self.world self.new ≡ forgotten (Self.world self.old) }
-        ensures fails { IsTrue Self.tells_fails → (n : ℕ) → Self.fails self.new n ≡ Self.fails self.old n }
-        ensures others { IsTrue Self.tells_found → (n : ℕ) (t : Tree) → Self.others self.new n t ≡ Self.others self.old n t }
-        ensures found { IsTrue Self.tells_found → Self.found self.new ≡ Self.found self.old }
-        ensures left { IsTrue Self.tells_found → Self.left self.new ≡ forgotten (Self.left self.old) };
+        ensures model { IsTrue Self.modelled → Self.model self.new ≡ forgotten (Self.model self.old) }
+        ensures fails { IsTrue Self.fails_modelled → (n : ℕ) → Self.fails self.new n ≡ Self.fails self.old n }
+        ensures others { IsTrue Self.found_modelled → (n : ℕ) (t : Tree) → Self.others self.new n t ≡ Self.others self.old n t }
+        ensures found { IsTrue Self.found_modelled → Self.found self.new ≡ Self.found self.old }
+        ensures left { IsTrue Self.found_modelled → Self.left self.new ≡ forgotten (Self.left self.old) };
 }

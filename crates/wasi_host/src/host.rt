@@ -7,7 +7,7 @@ ghost use Rattle.wasi_paths.specs.Name.{name_bytes};
 ghost use Rattle.wasi_paths.specs.Text.{is_entry_name};
 ghost use Rattle.wasi_host.specs.HostCall.{OpenAt, StatAt, ReadLinkAt, MakeDirAt, SymlinkAt, LinkAt, RenameAt, UnlinkAt, RemoveDirAt, TimesAt, Access, Stat, SetTimes, Pread, Pwrite, Append, SetSize, Sync, Advise, Flags, ListDir, Dup, Close};
 ghost use Rattle.wasi_host.specs.Answer.{entry_of};
-ghost use Rattle.wasi_host.specs.HostLaws.{World, AllHeld, FaultCount, HasCause, Rose, LiveGot, Told, Logged, LoggedGot, one_looked, both_looked, hosted, answered};
+ghost use Rattle.wasi_host.specs.HostLaws.{HostModel, AllHeld, FaultCount, HasCause, Rose, LiveGot, RefinesCall, Logged, LoggedGot, one_looked, both_looked, hosted, answered};
 ghost use Rattle.wasi_host.specs.FurtherLaws.{FollowsPlan, Fates, Finds, Follow, Others, Leaves, TakesEffect, MayTakeEffect};
 ghost use Rattle.wasi_host.specs.Numbers.{longest_link};
 ghost use Rattle.wasi_host.specs.Tree.{Tree};
@@ -24,7 +24,7 @@ use wasi_paths::Name;
 /// A tree of files behind handles, which is all that the crates above ever see of one.
 ///
 /// Each method has laws that hold for every host (`cause`, `live`, `logged` and what is said of the answer alone) and,
-/// where the host tells its world, the law `told`: every code but `Io` comes exactly by the first row of the host's table
+/// where the host tells its world, the law `modelled`: every code but `Io` comes exactly by the first row of the host's table
 /// that holds, Ok has exactly the row's answer and makes the row's one step, a refused call leaves the tree, and the call
 /// touches the nodes that it comes to and no others. `Io` comes only where the count of faults rose, and may hide a step.
 ///
@@ -48,13 +48,13 @@ pub trait Host {
     ghost lookups: { Self → List Lookup };
 
     /// Whether the host tells its world.
-    ghost told: { Bool };
+    ghost modelled: { Bool };
 
     /// The tree, what each live handle stands for, and the touched nodes. It says nothing where it isn't told.
-    ghost world: { Self → World };
+    ghost model: { Self → HostModel };
 
     /// Whether the host tells which of its calls fail by themselves.
-    ghost tells_fails: { Bool };
+    ghost fails_modelled: { Bool };
 
     /// What becomes of the calls to come but `dup` and `close`, of the next one at 0. Where it is told, a call answers `Io`
     /// exactly where it fails. Where the host tells what its calls find too, one that isn't made leaves all as it was, and
@@ -63,7 +63,7 @@ pub trait Host {
     ghost fails: { Self → Fates };
 
     /// Whether the host tells what its calls find and leave, be it that others change its tree between them.
-    ghost tells_found: { Bool };
+    ghost found_modelled: { Bool };
 
     /// What others do to the tree before the calls to come but `dup` and `close`, before the next one at 0. Where it is
     /// told, each such call goes on by one, whatever it answers, and `dup` and `close` by none.
@@ -75,7 +75,7 @@ pub trait Host {
     /// The tree as the last call left it, what each live handle stands for, and the touched nodes. Where it is told, a
     /// call does to `found` and `left` what it does to the world of a host that tells its own, unless it fails before it
     /// is made; `dup` and `close` find what is left, and leave `found`.
-    ghost left: { Self → World };
+    ghost left: { Self → HostModel };
 
     /// Opens a name in a directory. A link is never followed. The handle has the read and write of the options, or is
     /// for the path alone. A missing name is made where the options ask to create, and a file is cut to no bytes where
@@ -90,15 +90,15 @@ pub trait Host {
         ensures cause { HasCause (faults self.old) (faults self.new) result }
         ensures live { LiveGot (live self.old) result (live self.new) }
         ensures logged { LoggedGot (live self.old) (lookups self.old) LookKind.Open start result (lookups self.new) }
-        ensures told { IsTrue told → Told (live self.old) (live self.new) (world self.old) (world self.new)
-            (OpenAt ((world self.old).held start).node (name_bytes name.entry) options.now)
-            (world self.new).held result }
-        ensures fails { IsTrue tells_fails → FollowsPlan (fails self.old) (fails self.new) result }
-        ensures others { IsTrue tells_found → Follow (others self.old) (others self.new) }
-        ensures found { IsTrue tells_found → Finds (live self.old) (live self.new) (left self.old) (found self.old) (left self.new)
+        ensures modelled { IsTrue modelled → RefinesCall (live self.old) (live self.new) (model self.old) (model self.new)
+            (OpenAt ((model self.old).held start).node (name_bytes name.entry) options.now)
+            (model self.new).held result }
+        ensures fails { IsTrue fails_modelled → FollowsPlan (fails self.old) (fails self.new) result }
+        ensures others { IsTrue found_modelled → Follow (others self.old) (others self.new) }
+        ensures found { IsTrue found_modelled → Finds (live self.old) (live self.new) (left self.old) (found self.old) (left self.new)
             (OpenAt ((left self.old).held start).node (name_bytes name.entry) options.now)
             (left self.new).held result }
-        ensures made { IsTrue tells_fails → IsTrue tells_found → Leaves (fails self.old 0) (left self.old) (found self.old)
+        ensures made { IsTrue fails_modelled → IsTrue found_modelled → Leaves (fails self.old 0) (left self.old) (found self.old)
             (left self.new) (MayTakeEffect (OpenAt ((left self.old).held start).node (name_bytes name.entry) options.now)) };
 
     /// The metadata of the node under a name in a directory. A link is not followed: the metadata are its own.
@@ -109,15 +109,15 @@ pub trait Host {
         ensures live { live self.new ≡ live self.old }
         ensures logged { Logged (lookups self.old) (one_looked LookKind.Stat start) result (lookups self.new) }
         ensures times { IfOk result HasTimes }
-        ensures told { IsTrue told → Told (live self.old) (live self.new) (world self.old) (world self.new)
-            (StatAt ((world self.old).held start).node (name_bytes name.entry))
+        ensures modelled { IsTrue modelled → RefinesCall (live self.old) (live self.new) (model self.old) (model self.new)
+            (StatAt ((model self.old).held start).node (name_bytes name.entry))
             (λ metadata. metadata) result }
-        ensures fails { IsTrue tells_fails → FollowsPlan (fails self.old) (fails self.new) result }
-        ensures others { IsTrue tells_found → Follow (others self.old) (others self.new) }
-        ensures found { IsTrue tells_found → Finds (live self.old) (live self.new) (left self.old) (found self.old) (left self.new)
+        ensures fails { IsTrue fails_modelled → FollowsPlan (fails self.old) (fails self.new) result }
+        ensures others { IsTrue found_modelled → Follow (others self.old) (others self.new) }
+        ensures found { IsTrue found_modelled → Finds (live self.old) (live self.new) (left self.old) (found self.old) (left self.new)
             (StatAt ((left self.old).held start).node (name_bytes name.entry))
             (λ metadata. metadata) result }
-        ensures made { IsTrue tells_fails → IsTrue tells_found → Leaves (fails self.old 0) (left self.old) (found self.old)
+        ensures made { IsTrue fails_modelled → IsTrue found_modelled → Leaves (fails self.old 0) (left self.old) (found self.old)
             (left self.new) (MayTakeEffect (StatAt ((left self.old).held start).node (name_bytes name.entry))) };
 
     /// The text of the link under a name in a directory, which has 1 to 4,095 bytes. Refusals: the rows for a name;
@@ -134,15 +134,15 @@ pub trait Host {
         ensures logged { Logged (lookups self.old) (one_looked LookKind.ReadLink start) result (lookups self.new) }
         ensures some { IfOk result (λ text. 0 < length (string_bytes text)) }
         ensures most { IfOk result (λ text. length (string_bytes text) ≤ longest_link) }
-        ensures told { IsTrue told → Told (live self.old) (live self.new) (world self.old) (world self.new)
-            (ReadLinkAt ((world self.old).held start).node (name_bytes name.entry))
+        ensures modelled { IsTrue modelled → RefinesCall (live self.old) (live self.new) (model self.old) (model self.new)
+            (ReadLinkAt ((model self.old).held start).node (name_bytes name.entry))
             (λ text. string_bytes text) result }
-        ensures fails { IsTrue tells_fails → FollowsPlan (fails self.old) (fails self.new) result }
-        ensures others { IsTrue tells_found → Follow (others self.old) (others self.new) }
-        ensures found { IsTrue tells_found → Finds (live self.old) (live self.new) (left self.old) (found self.old) (left self.new)
+        ensures fails { IsTrue fails_modelled → FollowsPlan (fails self.old) (fails self.new) result }
+        ensures others { IsTrue found_modelled → Follow (others self.old) (others self.new) }
+        ensures found { IsTrue found_modelled → Finds (live self.old) (live self.new) (left self.old) (found self.old) (left self.new)
             (ReadLinkAt ((left self.old).held start).node (name_bytes name.entry))
             (λ text. string_bytes text) result }
-        ensures made { IsTrue tells_fails → IsTrue tells_found → Leaves (fails self.old 0) (left self.old) (found self.old)
+        ensures made { IsTrue fails_modelled → IsTrue found_modelled → Leaves (fails self.old 0) (left self.old) (found self.old)
             (left self.new) (MayTakeEffect (ReadLinkAt ((left self.old).held start).node (name_bytes name.entry))) };
 
     /// Makes an empty directory under a name in a directory. It may be read, written and searched, and has zero times.
@@ -153,15 +153,15 @@ pub trait Host {
         ensures cause { HasCause (faults self.old) (faults self.new) result }
         ensures live { live self.new ≡ live self.old }
         ensures logged { Logged (lookups self.old) (one_looked LookKind.Make start) result (lookups self.new) }
-        ensures told { IsTrue told → Told (live self.old) (live self.new) (world self.old) (world self.new)
-            (MakeDirAt ((world self.old).held start).node (name_bytes name.entry))
+        ensures modelled { IsTrue modelled → RefinesCall (live self.old) (live self.new) (model self.old) (model self.new)
+            (MakeDirAt ((model self.old).held start).node (name_bytes name.entry))
             (λ unit. unit) result }
-        ensures fails { IsTrue tells_fails → FollowsPlan (fails self.old) (fails self.new) result }
-        ensures others { IsTrue tells_found → Follow (others self.old) (others self.new) }
-        ensures found { IsTrue tells_found → Finds (live self.old) (live self.new) (left self.old) (found self.old) (left self.new)
+        ensures fails { IsTrue fails_modelled → FollowsPlan (fails self.old) (fails self.new) result }
+        ensures others { IsTrue found_modelled → Follow (others self.old) (others self.new) }
+        ensures found { IsTrue found_modelled → Finds (live self.old) (live self.new) (left self.old) (found self.old) (left self.new)
             (MakeDirAt ((left self.old).held start).node (name_bytes name.entry))
             (λ unit. unit) result }
-        ensures made { IsTrue tells_fails → IsTrue tells_found → Leaves (fails self.old 0) (left self.old) (found self.old)
+        ensures made { IsTrue fails_modelled → IsTrue found_modelled → Leaves (fails self.old 0) (left self.old) (found self.old)
             (left self.new) (MayTakeEffect (MakeDirAt ((left self.old).held start).node (name_bytes name.entry))) };
 
     /// Makes a link of this text under a name in a directory; nothing need be where the text leads. Refusals, before
@@ -172,15 +172,15 @@ pub trait Host {
         ensures cause { HasCause (faults self.old) (faults self.new) result }
         ensures live { live self.new ≡ live self.old }
         ensures logged { Logged (lookups self.old) (one_looked LookKind.MakeLink start) result (lookups self.new) }
-        ensures told { IsTrue told → Told (live self.old) (live self.new) (world self.old) (world self.new)
-            (SymlinkAt target.now ((world self.old).held start).node (name_bytes name.entry))
+        ensures modelled { IsTrue modelled → RefinesCall (live self.old) (live self.new) (model self.old) (model self.new)
+            (SymlinkAt target.now ((model self.old).held start).node (name_bytes name.entry))
             (λ unit. unit) result }
-        ensures fails { IsTrue tells_fails → FollowsPlan (fails self.old) (fails self.new) result }
-        ensures others { IsTrue tells_found → Follow (others self.old) (others self.new) }
-        ensures found { IsTrue tells_found → Finds (live self.old) (live self.new) (left self.old) (found self.old) (left self.new)
+        ensures fails { IsTrue fails_modelled → FollowsPlan (fails self.old) (fails self.new) result }
+        ensures others { IsTrue found_modelled → Follow (others self.old) (others self.new) }
+        ensures found { IsTrue found_modelled → Finds (live self.old) (live self.new) (left self.old) (found self.old) (left self.new)
             (SymlinkAt target.now ((left self.old).held start).node (name_bytes name.entry))
             (λ unit. unit) result }
-        ensures made { IsTrue tells_fails → IsTrue tells_found → Leaves (fails self.old 0) (left self.old) (found self.old)
+        ensures made { IsTrue fails_modelled → IsTrue found_modelled → Leaves (fails self.old 0) (left self.old) (found self.old)
             (left self.new) (MayTakeEffect (SymlinkAt target.now ((left self.old).held start).node (name_bytes name.entry))) };
 
     /// Gives the file or link under the old name in a directory a new name in another, which may be the same; a link is
@@ -198,17 +198,17 @@ pub trait Host {
         ensures cause { HasCause (faults self.old) (faults self.new) result }
         ensures live { live self.new ≡ live self.old }
         ensures logged { Logged (lookups self.old) (both_looked LookKind.Link old new) result (lookups self.new) }
-        ensures told { IsTrue told → Told (live self.old) (live self.new) (world self.old) (world self.new)
-            (LinkAt ((world self.old).held old).node (name_bytes old_name.entry)
-            ((world self.old).held new).node (name_bytes new_name.entry))
+        ensures modelled { IsTrue modelled → RefinesCall (live self.old) (live self.new) (model self.old) (model self.new)
+            (LinkAt ((model self.old).held old).node (name_bytes old_name.entry)
+            ((model self.old).held new).node (name_bytes new_name.entry))
             (λ unit. unit) result }
-        ensures fails { IsTrue tells_fails → FollowsPlan (fails self.old) (fails self.new) result }
-        ensures others { IsTrue tells_found → Follow (others self.old) (others self.new) }
-        ensures found { IsTrue tells_found → Finds (live self.old) (live self.new) (left self.old) (found self.old) (left self.new)
+        ensures fails { IsTrue fails_modelled → FollowsPlan (fails self.old) (fails self.new) result }
+        ensures others { IsTrue found_modelled → Follow (others self.old) (others self.new) }
+        ensures found { IsTrue found_modelled → Finds (live self.old) (live self.new) (left self.old) (found self.old) (left self.new)
             (LinkAt ((left self.old).held old).node (name_bytes old_name.entry)
             ((left self.old).held new).node (name_bytes new_name.entry))
             (λ unit. unit) result }
-        ensures made { IsTrue tells_fails → IsTrue tells_found → Leaves (fails self.old 0) (left self.old) (found self.old)
+        ensures made { IsTrue fails_modelled → IsTrue found_modelled → Leaves (fails self.old 0) (left self.old) (found self.old)
             (left self.new) (MayTakeEffect (LinkAt ((left self.old).held old).node (name_bytes old_name.entry)
             ((left self.old).held new).node (name_bytes new_name.entry))) };
 
@@ -231,17 +231,17 @@ pub trait Host {
         ensures cause { HasCause (faults self.old) (faults self.new) result }
         ensures live { live self.new ≡ live self.old }
         ensures logged { Logged (lookups self.old) (both_looked LookKind.Rename old new) result (lookups self.new) }
-        ensures told { IsTrue told → Told (live self.old) (live self.new) (world self.old) (world self.new)
-            (RenameAt ((world self.old).held old).node (name_bytes old_name.entry)
-            ((world self.old).held new).node (name_bytes new_name.entry) requires_dir)
+        ensures modelled { IsTrue modelled → RefinesCall (live self.old) (live self.new) (model self.old) (model self.new)
+            (RenameAt ((model self.old).held old).node (name_bytes old_name.entry)
+            ((model self.old).held new).node (name_bytes new_name.entry) requires_dir)
             (λ unit. unit) result }
-        ensures fails { IsTrue tells_fails → FollowsPlan (fails self.old) (fails self.new) result }
-        ensures others { IsTrue tells_found → Follow (others self.old) (others self.new) }
-        ensures found { IsTrue tells_found → Finds (live self.old) (live self.new) (left self.old) (found self.old) (left self.new)
+        ensures fails { IsTrue fails_modelled → FollowsPlan (fails self.old) (fails self.new) result }
+        ensures others { IsTrue found_modelled → Follow (others self.old) (others self.new) }
+        ensures found { IsTrue found_modelled → Finds (live self.old) (live self.new) (left self.old) (found self.old) (left self.new)
             (RenameAt ((left self.old).held old).node (name_bytes old_name.entry)
             ((left self.old).held new).node (name_bytes new_name.entry) requires_dir)
             (λ unit. unit) result }
-        ensures made { IsTrue tells_fails → IsTrue tells_found → Leaves (fails self.old 0) (left self.old) (found self.old)
+        ensures made { IsTrue fails_modelled → IsTrue found_modelled → Leaves (fails self.old 0) (left self.old) (found self.old)
             (left self.new) (MayTakeEffect (RenameAt ((left self.old).held old).node (name_bytes old_name.entry)
             ((left self.old).held new).node (name_bytes new_name.entry) requires_dir)) };
 
@@ -253,15 +253,15 @@ pub trait Host {
         ensures cause { HasCause (faults self.old) (faults self.new) result }
         ensures live { live self.new ≡ live self.old }
         ensures logged { Logged (lookups self.old) (one_looked LookKind.Unlink start) result (lookups self.new) }
-        ensures told { IsTrue told → Told (live self.old) (live self.new) (world self.old) (world self.new)
-            (UnlinkAt ((world self.old).held start).node (name_bytes name.entry))
+        ensures modelled { IsTrue modelled → RefinesCall (live self.old) (live self.new) (model self.old) (model self.new)
+            (UnlinkAt ((model self.old).held start).node (name_bytes name.entry))
             (λ unit. unit) result }
-        ensures fails { IsTrue tells_fails → FollowsPlan (fails self.old) (fails self.new) result }
-        ensures others { IsTrue tells_found → Follow (others self.old) (others self.new) }
-        ensures found { IsTrue tells_found → Finds (live self.old) (live self.new) (left self.old) (found self.old) (left self.new)
+        ensures fails { IsTrue fails_modelled → FollowsPlan (fails self.old) (fails self.new) result }
+        ensures others { IsTrue found_modelled → Follow (others self.old) (others self.new) }
+        ensures found { IsTrue found_modelled → Finds (live self.old) (live self.new) (left self.old) (found self.old) (left self.new)
             (UnlinkAt ((left self.old).held start).node (name_bytes name.entry))
             (λ unit. unit) result }
-        ensures made { IsTrue tells_fails → IsTrue tells_found → Leaves (fails self.old 0) (left self.old) (found self.old)
+        ensures made { IsTrue fails_modelled → IsTrue found_modelled → Leaves (fails self.old 0) (left self.old) (found self.old)
             (left self.new) (MayTakeEffect (UnlinkAt ((left self.old).held start).node (name_bytes name.entry))) };
 
     /// Drops the name of an empty directory, which is removed from then on: a handle may still stand for it, but it
@@ -273,15 +273,15 @@ pub trait Host {
         ensures cause { HasCause (faults self.old) (faults self.new) result }
         ensures live { live self.new ≡ live self.old }
         ensures logged { Logged (lookups self.old) (one_looked LookKind.RemoveDir start) result (lookups self.new) }
-        ensures told { IsTrue told → Told (live self.old) (live self.new) (world self.old) (world self.new)
-            (RemoveDirAt ((world self.old).held start).node (name_bytes name.entry))
+        ensures modelled { IsTrue modelled → RefinesCall (live self.old) (live self.new) (model self.old) (model self.new)
+            (RemoveDirAt ((model self.old).held start).node (name_bytes name.entry))
             (λ unit. unit) result }
-        ensures fails { IsTrue tells_fails → FollowsPlan (fails self.old) (fails self.new) result }
-        ensures others { IsTrue tells_found → Follow (others self.old) (others self.new) }
-        ensures found { IsTrue tells_found → Finds (live self.old) (live self.new) (left self.old) (found self.old) (left self.new)
+        ensures fails { IsTrue fails_modelled → FollowsPlan (fails self.old) (fails self.new) result }
+        ensures others { IsTrue found_modelled → Follow (others self.old) (others self.new) }
+        ensures found { IsTrue found_modelled → Finds (live self.old) (live self.new) (left self.old) (found self.old) (left self.new)
             (RemoveDirAt ((left self.old).held start).node (name_bytes name.entry))
             (λ unit. unit) result }
-        ensures made { IsTrue tells_fails → IsTrue tells_found → Leaves (fails self.old 0) (left self.old) (found self.old)
+        ensures made { IsTrue fails_modelled → IsTrue found_modelled → Leaves (fails self.old 0) (left self.old) (found self.old)
             (left self.new) (MayTakeEffect (RemoveDirAt ((left self.old).held start).node (name_bytes name.entry))) };
 
     /// Sets the given times of the node under a name in a directory, that of its last read and that of its last change;
@@ -298,15 +298,15 @@ pub trait Host {
         ensures cause { HasCause (faults self.old) (faults self.new) result }
         ensures live { live self.new ≡ live self.old }
         ensures logged { Logged (lookups self.old) (one_looked LookKind.Times start) result (lookups self.new) }
-        ensures told { IsTrue told → Told (live self.old) (live self.new) (world self.old) (world self.new)
-            (TimesAt ((world self.old).held start).node (name_bytes name.entry) atime mtime)
+        ensures modelled { IsTrue modelled → RefinesCall (live self.old) (live self.new) (model self.old) (model self.new)
+            (TimesAt ((model self.old).held start).node (name_bytes name.entry) atime mtime)
             (λ unit. unit) result }
-        ensures fails { IsTrue tells_fails → FollowsPlan (fails self.old) (fails self.new) result }
-        ensures others { IsTrue tells_found → Follow (others self.old) (others self.new) }
-        ensures found { IsTrue tells_found → Finds (live self.old) (live self.new) (left self.old) (found self.old) (left self.new)
+        ensures fails { IsTrue fails_modelled → FollowsPlan (fails self.old) (fails self.new) result }
+        ensures others { IsTrue found_modelled → Follow (others self.old) (others self.new) }
+        ensures found { IsTrue found_modelled → Finds (live self.old) (live self.new) (left self.old) (found self.old) (left self.new)
             (TimesAt ((left self.old).held start).node (name_bytes name.entry) atime mtime)
             (λ unit. unit) result }
-        ensures made { IsTrue tells_fails → IsTrue tells_found → Leaves (fails self.old 0) (left self.old) (found self.old)
+        ensures made { IsTrue fails_modelled → IsTrue found_modelled → Leaves (fails self.old 0) (left self.old) (found self.old)
             (left self.new) (MayTakeEffect (TimesAt ((left self.old).held start).node (name_bytes name.entry) atime mtime)) };
 
     /// All names of a directory but `.` and `..`, in byte order, each with the kind of the node that it holds, a link's
@@ -319,15 +319,15 @@ pub trait Host {
         ensures live { live self.new ≡ live self.old }
         ensures logged { Logged (lookups self.old) (one_looked LookKind.List directory) result (lookups self.new) }
         ensures names { IfOk result (λ entries. All (λ entry. IsTrue (is_entry_name entry.0)) (map entry_of entries.items)) }
-        ensures told { IsTrue told → Told (live self.old) (live self.new) (world self.old) (world self.new)
-            (ListDir ((world self.old).held directory))
+        ensures modelled { IsTrue modelled → RefinesCall (live self.old) (live self.new) (model self.old) (model self.new)
+            (ListDir ((model self.old).held directory))
             (λ entries. map entry_of entries.items) result }
-        ensures fails { IsTrue tells_fails → FollowsPlan (fails self.old) (fails self.new) result }
-        ensures others { IsTrue tells_found → Follow (others self.old) (others self.new) }
-        ensures found { IsTrue tells_found → Finds (live self.old) (live self.new) (left self.old) (found self.old) (left self.new)
+        ensures fails { IsTrue fails_modelled → FollowsPlan (fails self.old) (fails self.new) result }
+        ensures others { IsTrue found_modelled → Follow (others self.old) (others self.new) }
+        ensures found { IsTrue found_modelled → Finds (live self.old) (live self.new) (left self.old) (found self.old) (left self.new)
             (ListDir ((left self.old).held directory))
             (λ entries. map entry_of entries.items) result }
-        ensures made { IsTrue tells_fails → IsTrue tells_found → Leaves (fails self.old 0) (left self.old) (found self.old)
+        ensures made { IsTrue fails_modelled → IsTrue found_modelled → Leaves (fails self.old 0) (left self.old) (found self.old)
             (left self.new) (MayTakeEffect (ListDir ((left self.old).held directory))) };
 
     /// Another live handle of the same node and access.
@@ -336,12 +336,12 @@ pub trait Host {
         ensures cause { HasCause (faults self.old) (faults self.new) result }
         ensures live { LiveGot (live self.old) result (live self.new) }
         ensures logged { LoggedGot (live self.old) (lookups self.old) LookKind.Dup handle result (lookups self.new) }
-        ensures told { IsTrue told → Told (live self.old) (live self.new) (world self.old) (world self.new)
-            (Dup ((world self.old).held handle)) (world self.new).held result }
-        ensures fails { IsTrue tells_fails → (n : ℕ) → fails self.new n ≡ fails self.old n }
-        ensures others { IsTrue tells_found → (n : ℕ) (t : Tree) → others self.new n t ≡ others self.old n t }
-        ensures found { IsTrue tells_found → found self.new ≡ found self.old }
-        ensures left { IsTrue tells_found → Told (live self.old) (live self.new) (left self.old) (left self.new)
+        ensures modelled { IsTrue modelled → RefinesCall (live self.old) (live self.new) (model self.old) (model self.new)
+            (Dup ((model self.old).held handle)) (model self.new).held result }
+        ensures fails { IsTrue fails_modelled → (n : ℕ) → fails self.new n ≡ fails self.old n }
+        ensures others { IsTrue found_modelled → (n : ℕ) (t : Tree) → others self.new n t ≡ others self.old n t }
+        ensures found { IsTrue found_modelled → found self.new ≡ found self.old }
+        ensures left { IsTrue found_modelled → RefinesCall (live self.old) (live self.new) (left self.old) (left self.new)
             (Dup ((left self.old).held handle)) (left self.new).held result };
 
     /// Whether names may be looked up in a directory: `Access` where its search bit is missing. It takes no memory.
@@ -350,15 +350,15 @@ pub trait Host {
         ensures cause { HasCause (faults self.old) (faults self.new) (hosted result) }
         ensures live { live self.new ≡ live self.old }
         ensures logged { lookups self.new ≡ lookups self.old }
-        ensures told { IsTrue told → Told (live self.old) (live self.new) (world self.old) (world self.new)
-            (Access ((world self.old).held directory).node)
+        ensures modelled { IsTrue modelled → RefinesCall (live self.old) (live self.new) (model self.old) (model self.new)
+            (Access ((model self.old).held directory).node)
             (λ unit. unit) (hosted result) }
-        ensures fails { IsTrue tells_fails → FollowsPlan (fails self.old) (fails self.new) (hosted result) }
-        ensures others { IsTrue tells_found → Follow (others self.old) (others self.new) }
-        ensures found { IsTrue tells_found → Finds (live self.old) (live self.new) (left self.old) (found self.old) (left self.new)
+        ensures fails { IsTrue fails_modelled → FollowsPlan (fails self.old) (fails self.new) (hosted result) }
+        ensures others { IsTrue found_modelled → Follow (others self.old) (others self.new) }
+        ensures found { IsTrue found_modelled → Finds (live self.old) (live self.new) (left self.old) (found self.old) (left self.new)
             (Access ((left self.old).held directory).node)
             (λ unit. unit) (hosted result) }
-        ensures made { IsTrue tells_fails → IsTrue tells_found → Leaves (fails self.old 0) (left self.old) (found self.old)
+        ensures made { IsTrue fails_modelled → IsTrue found_modelled → Leaves (fails self.old 0) (left self.old) (found self.old)
             (left self.new) (TakesEffect (Access ((left self.old).held directory).node)) };
 
     /// The metadata of what a handle stands for. It takes no memory.
@@ -368,15 +368,15 @@ pub trait Host {
         ensures live { live self.new ≡ live self.old }
         ensures logged { lookups self.new ≡ lookups self.old }
         ensures times { IfOk result HasTimes }
-        ensures told { IsTrue told → Told (live self.old) (live self.new) (world self.old) (world self.new)
-            (Stat ((world self.old).held handle).node)
+        ensures modelled { IsTrue modelled → RefinesCall (live self.old) (live self.new) (model self.old) (model self.new)
+            (Stat ((model self.old).held handle).node)
             (λ metadata. metadata) (hosted result) }
-        ensures fails { IsTrue tells_fails → FollowsPlan (fails self.old) (fails self.new) (hosted result) }
-        ensures others { IsTrue tells_found → Follow (others self.old) (others self.new) }
-        ensures found { IsTrue tells_found → Finds (live self.old) (live self.new) (left self.old) (found self.old) (left self.new)
+        ensures fails { IsTrue fails_modelled → FollowsPlan (fails self.old) (fails self.new) (hosted result) }
+        ensures others { IsTrue found_modelled → Follow (others self.old) (others self.new) }
+        ensures found { IsTrue found_modelled → Finds (live self.old) (live self.new) (left self.old) (found self.old) (left self.new)
             (Stat ((left self.old).held handle).node)
             (λ metadata. metadata) (hosted result) }
-        ensures made { IsTrue tells_fails → IsTrue tells_found → Leaves (fails self.old 0) (left self.old) (found self.old)
+        ensures made { IsTrue fails_modelled → IsTrue found_modelled → Leaves (fails self.old 0) (left self.old) (found self.old)
             (left self.new) (TakesEffect (Stat ((left self.old).held handle).node)) };
 
     /// Sets the given times of what a handle stands for, as `times_at` does. It takes no memory, and no row refuses it.
@@ -390,15 +390,15 @@ pub trait Host {
         ensures cause { HasCause (faults self.old) (faults self.new) (hosted result) }
         ensures live { live self.new ≡ live self.old }
         ensures logged { lookups self.new ≡ lookups self.old }
-        ensures told { IsTrue told → Told (live self.old) (live self.new) (world self.old) (world self.new)
-            (SetTimes ((world self.old).held handle).node atime mtime)
+        ensures modelled { IsTrue modelled → RefinesCall (live self.old) (live self.new) (model self.old) (model self.new)
+            (SetTimes ((model self.old).held handle).node atime mtime)
             (λ unit. unit) (hosted result) }
-        ensures fails { IsTrue tells_fails → FollowsPlan (fails self.old) (fails self.new) (hosted result) }
-        ensures others { IsTrue tells_found → Follow (others self.old) (others self.new) }
-        ensures found { IsTrue tells_found → Finds (live self.old) (live self.new) (left self.old) (found self.old) (left self.new)
+        ensures fails { IsTrue fails_modelled → FollowsPlan (fails self.old) (fails self.new) (hosted result) }
+        ensures others { IsTrue found_modelled → Follow (others self.old) (others self.new) }
+        ensures found { IsTrue found_modelled → Finds (live self.old) (live self.new) (left self.old) (found self.old) (left self.new)
             (SetTimes ((left self.old).held handle).node atime mtime)
             (λ unit. unit) (hosted result) }
-        ensures made { IsTrue tells_fails → IsTrue tells_found → Leaves (fails self.old 0) (left self.old) (found self.old)
+        ensures made { IsTrue fails_modelled → IsTrue found_modelled → Leaves (fails self.old 0) (left self.old) (found self.old)
             (left self.new) (TakesEffect (SetTimes ((left self.old).held handle).node atime mtime)) };
 
     /// Reads a file's bytes from an offset on into the front of `buf`, and answers how many: where the host tells its
@@ -413,15 +413,15 @@ pub trait Host {
         ensures offset { OnOk result (offset < 2 ^ 63) }
         ensures rest { IfOk result (λ n. drop n buf.new ≡ drop n buf.old) }
         ensures kept { OnErr result (buf.new ≡ buf.old) }
-        ensures told { IsTrue told → Told (live self.old) (live self.new) (world self.old) (world self.new)
-            (Pread ((world self.old).held file) offset (length buf.old))
+        ensures modelled { IsTrue modelled → RefinesCall (live self.old) (live self.new) (model self.old) (model self.new)
+            (Pread ((model self.old).held file) offset (length buf.old))
             (λ n. take n buf.new) (hosted result) }
-        ensures fails { IsTrue tells_fails → FollowsPlan (fails self.old) (fails self.new) (hosted result) }
-        ensures others { IsTrue tells_found → Follow (others self.old) (others self.new) }
-        ensures found { IsTrue tells_found → Finds (live self.old) (live self.new) (left self.old) (found self.old) (left self.new)
+        ensures fails { IsTrue fails_modelled → FollowsPlan (fails self.old) (fails self.new) (hosted result) }
+        ensures others { IsTrue found_modelled → Follow (others self.old) (others self.new) }
+        ensures found { IsTrue found_modelled → Finds (live self.old) (live self.new) (left self.old) (found self.old) (left self.new)
             (Pread ((left self.old).held file) offset (length buf.old))
             (λ n. take n buf.new) (hosted result) }
-        ensures made { IsTrue tells_fails → IsTrue tells_found → Leaves (fails self.old 0) (left self.old) (found self.old)
+        ensures made { IsTrue fails_modelled → IsTrue found_modelled → Leaves (fails self.old 0) (left self.old) (found self.old)
             (left self.new) (TakesEffect (Pread ((left self.old).held file) offset (length buf.old))) };
 
     /// Puts a piece of bytes into a file from an offset on, with zeros in a gap before it, and answers how many it
@@ -436,15 +436,15 @@ pub trait Host {
         ensures fits { IfOk result (λ n. n ≤ length piece.now) }
         ensures takes { result ≡ Ok 0 → 0 < length piece.now → Rose (faults self.old) (faults self.new) }
         ensures offset { OnOk result (offset < 2 ^ 63) }
-        ensures told { IsTrue told → Told (live self.old) (live self.new) (world self.old) (world self.new)
-            (Pwrite ((world self.old).held file) offset piece.now)
+        ensures modelled { IsTrue modelled → RefinesCall (live self.old) (live self.new) (model self.old) (model self.new)
+            (Pwrite ((model self.old).held file) offset piece.now)
             (λ n. n) result }
-        ensures fails { IsTrue tells_fails → FollowsPlan (fails self.old) (fails self.new) result }
-        ensures others { IsTrue tells_found → Follow (others self.old) (others self.new) }
-        ensures found { IsTrue tells_found → Finds (live self.old) (live self.new) (left self.old) (found self.old) (left self.new)
+        ensures fails { IsTrue fails_modelled → FollowsPlan (fails self.old) (fails self.new) result }
+        ensures others { IsTrue found_modelled → Follow (others self.old) (others self.new) }
+        ensures found { IsTrue found_modelled → Finds (live self.old) (live self.new) (left self.old) (found self.old) (left self.new)
             (Pwrite ((left self.old).held file) offset piece.now)
             (λ n. n) result }
-        ensures made { IsTrue tells_fails → IsTrue tells_found → Leaves (fails self.old 0) (left self.old) (found self.old)
+        ensures made { IsTrue fails_modelled → IsTrue found_modelled → Leaves (fails self.old 0) (left self.old) (found self.old)
             (left self.new) (MayTakeEffect (Pwrite ((left self.old).held file) offset piece.now)) };
 
     /// Puts a piece of bytes behind a file's last one, and answers how many it took, which is all where the host tells
@@ -458,15 +458,15 @@ pub trait Host {
         ensures logged { lookups self.new ≡ lookups self.old }
         ensures fits { IfOk result (λ n. n ≤ length piece.now) }
         ensures takes { result ≡ Ok 0 → 0 < length piece.now → Rose (faults self.old) (faults self.new) }
-        ensures told { IsTrue told → Told (live self.old) (live self.new) (world self.old) (world self.new)
-            (Append ((world self.old).held file) piece.now)
+        ensures modelled { IsTrue modelled → RefinesCall (live self.old) (live self.new) (model self.old) (model self.new)
+            (Append ((model self.old).held file) piece.now)
             (λ n. n) result }
-        ensures fails { IsTrue tells_fails → FollowsPlan (fails self.old) (fails self.new) result }
-        ensures others { IsTrue tells_found → Follow (others self.old) (others self.new) }
-        ensures found { IsTrue tells_found → Finds (live self.old) (live self.new) (left self.old) (found self.old) (left self.new)
+        ensures fails { IsTrue fails_modelled → FollowsPlan (fails self.old) (fails self.new) result }
+        ensures others { IsTrue found_modelled → Follow (others self.old) (others self.new) }
+        ensures found { IsTrue found_modelled → Finds (live self.old) (live self.new) (left self.old) (found self.old) (left self.new)
             (Append ((left self.old).held file) piece.now)
             (λ n. n) result }
-        ensures made { IsTrue tells_fails → IsTrue tells_found → Leaves (fails self.old 0) (left self.old) (found self.old)
+        ensures made { IsTrue fails_modelled → IsTrue found_modelled → Leaves (fails self.old 0) (left self.old) (found self.old)
             (left self.new) (MayTakeEffect (Append ((left self.old).held file) piece.now)) };
 
     /// Cuts a file to so many bytes, or fills it up to them with zeros, as POSIX's `ftruncate` does. Refusals: Invalid
@@ -476,15 +476,15 @@ pub trait Host {
         ensures cause { HasCause (faults self.old) (faults self.new) result }
         ensures live { live self.new ≡ live self.old }
         ensures logged { lookups self.new ≡ lookups self.old }
-        ensures told { IsTrue told → Told (live self.old) (live self.new) (world self.old) (world self.new)
-            (SetSize ((world self.old).held file) size)
+        ensures modelled { IsTrue modelled → RefinesCall (live self.old) (live self.new) (model self.old) (model self.new)
+            (SetSize ((model self.old).held file) size)
             (λ unit. unit) result }
-        ensures fails { IsTrue tells_fails → FollowsPlan (fails self.old) (fails self.new) result }
-        ensures others { IsTrue tells_found → Follow (others self.old) (others self.new) }
-        ensures found { IsTrue tells_found → Finds (live self.old) (live self.new) (left self.old) (found self.old) (left self.new)
+        ensures fails { IsTrue fails_modelled → FollowsPlan (fails self.old) (fails self.new) result }
+        ensures others { IsTrue found_modelled → Follow (others self.old) (others self.new) }
+        ensures found { IsTrue found_modelled → Finds (live self.old) (live self.new) (left self.old) (found self.old) (left self.new)
             (SetSize ((left self.old).held file) size)
             (λ unit. unit) result }
-        ensures made { IsTrue tells_fails → IsTrue tells_found → Leaves (fails self.old 0) (left self.old) (found self.old)
+        ensures made { IsTrue fails_modelled → IsTrue found_modelled → Leaves (fails self.old 0) (left self.old) (found self.old)
             (left self.new) (MayTakeEffect (SetSize ((left self.old).held file) size)) };
 
     /// Waits until what a handle stands for is stored, as POSIX's `fsync` does. It takes no memory, and no row refuses
@@ -494,15 +494,15 @@ pub trait Host {
         ensures cause { HasCause (faults self.old) (faults self.new) (hosted result) }
         ensures live { live self.new ≡ live self.old }
         ensures logged { lookups self.new ≡ lookups self.old }
-        ensures told { IsTrue told → Told (live self.old) (live self.new) (world self.old) (world self.new)
-            (Sync ((world self.old).held handle).node)
+        ensures modelled { IsTrue modelled → RefinesCall (live self.old) (live self.new) (model self.old) (model self.new)
+            (Sync ((model self.old).held handle).node)
             (λ unit. unit) (hosted result) }
-        ensures fails { IsTrue tells_fails → FollowsPlan (fails self.old) (fails self.new) (hosted result) }
-        ensures others { IsTrue tells_found → Follow (others self.old) (others self.new) }
-        ensures found { IsTrue tells_found → Finds (live self.old) (live self.new) (left self.old) (found self.old) (left self.new)
+        ensures fails { IsTrue fails_modelled → FollowsPlan (fails self.old) (fails self.new) (hosted result) }
+        ensures others { IsTrue found_modelled → Follow (others self.old) (others self.new) }
+        ensures found { IsTrue found_modelled → Finds (live self.old) (live self.new) (left self.old) (found self.old) (left self.new)
             (Sync ((left self.old).held handle).node)
             (λ unit. unit) (hosted result) }
-        ensures made { IsTrue tells_fails → IsTrue tells_found → Leaves (fails self.old 0) (left self.old) (found self.old)
+        ensures made { IsTrue fails_modelled → IsTrue found_modelled → Leaves (fails self.old 0) (left self.old) (found self.old)
             (left self.new) (TakesEffect (Sync ((left self.old).held handle).node)) };
 
     /// Tells how the bytes from an offset on will be used, as POSIX's `posix_fadvise` does. Nothing changes. It takes no
@@ -518,15 +518,15 @@ pub trait Host {
         ensures cause { HasCause (faults self.old) (faults self.new) (hosted result) }
         ensures live { live self.new ≡ live self.old }
         ensures logged { lookups self.new ≡ lookups self.old }
-        ensures told { IsTrue told → Told (live self.old) (live self.new) (world self.old) (world self.new)
-            (Advise ((world self.old).held file).node offset len advice)
+        ensures modelled { IsTrue modelled → RefinesCall (live self.old) (live self.new) (model self.old) (model self.new)
+            (Advise ((model self.old).held file).node offset len advice)
             (λ unit. unit) (hosted result) }
-        ensures fails { IsTrue tells_fails → FollowsPlan (fails self.old) (fails self.new) (hosted result) }
-        ensures others { IsTrue tells_found → Follow (others self.old) (others self.new) }
-        ensures found { IsTrue tells_found → Finds (live self.old) (live self.new) (left self.old) (found self.old) (left self.new)
+        ensures fails { IsTrue fails_modelled → FollowsPlan (fails self.old) (fails self.new) (hosted result) }
+        ensures others { IsTrue found_modelled → Follow (others self.old) (others self.new) }
+        ensures found { IsTrue found_modelled → Finds (live self.old) (live self.new) (left self.old) (found self.old) (left self.new)
             (Advise ((left self.old).held file).node offset len advice)
             (λ unit. unit) (hosted result) }
-        ensures made { IsTrue tells_fails → IsTrue tells_found → Leaves (fails self.old 0) (left self.old) (found self.old)
+        ensures made { IsTrue fails_modelled → IsTrue found_modelled → Leaves (fails self.old 0) (left self.old) (found self.old)
             (left self.new) (TakesEffect (Advise ((left self.old).held file).node offset len advice)) };
 
     /// The synchronized modes of a handle: none, where the host tells its world. It takes no memory, and no row refuses
@@ -536,15 +536,15 @@ pub trait Host {
         ensures cause { HasCause (faults self.old) (faults self.new) (hosted result) }
         ensures live { live self.new ≡ live self.old }
         ensures logged { lookups self.new ≡ lookups self.old }
-        ensures told { IsTrue told → Told (live self.old) (live self.new) (world self.old) (world self.new)
-            (Flags ((world self.old).held handle).node)
+        ensures modelled { IsTrue modelled → RefinesCall (live self.old) (live self.new) (model self.old) (model self.new)
+            (Flags ((model self.old).held handle).node)
             (λ flags. flags) (hosted result) }
-        ensures fails { IsTrue tells_fails → FollowsPlan (fails self.old) (fails self.new) (hosted result) }
-        ensures others { IsTrue tells_found → Follow (others self.old) (others self.new) }
-        ensures found { IsTrue tells_found → Finds (live self.old) (live self.new) (left self.old) (found self.old) (left self.new)
+        ensures fails { IsTrue fails_modelled → FollowsPlan (fails self.old) (fails self.new) (hosted result) }
+        ensures others { IsTrue found_modelled → Follow (others self.old) (others self.new) }
+        ensures found { IsTrue found_modelled → Finds (live self.old) (live self.new) (left self.old) (found self.old) (left self.new)
             (Flags ((left self.old).held handle).node)
             (λ flags. flags) (hosted result) }
-        ensures made { IsTrue tells_fails → IsTrue tells_found → Leaves (fails self.old 0) (left self.old) (found self.old)
+        ensures made { IsTrue fails_modelled → IsTrue found_modelled → Leaves (fails self.old 0) (left self.old) (found self.old)
             (left self.new) (TakesEffect (Flags ((left self.old).held handle).node)) };
 
     /// The handle isn't live any more. It can't fail, and takes no memory.
@@ -553,12 +553,12 @@ pub trait Host {
         ensures faults { faults self.new ≡ faults self.old }
         ensures live { live self.new ≡ remove (live self.old) handle }
         ensures logged { lookups self.new ≡ lookups self.old }
-        ensures told { IsTrue told → Told (live self.old) (live self.new) (world self.old) (world self.new)
+        ensures modelled { IsTrue modelled → RefinesCall (live self.old) (live self.new) (model self.old) (model self.new)
             Close (λ unit. unit) answered }
-        ensures fails { IsTrue tells_fails → (n : ℕ) → fails self.new n ≡ fails self.old n }
-        ensures others { IsTrue tells_found → (n : ℕ) (t : Tree) → others self.new n t ≡ others self.old n t }
-        ensures found { IsTrue tells_found → found self.new ≡ found self.old }
-        ensures left { IsTrue tells_found → Told (live self.old) (live self.new) (left self.old) (left self.new)
+        ensures fails { IsTrue fails_modelled → (n : ℕ) → fails self.new n ≡ fails self.old n }
+        ensures others { IsTrue found_modelled → (n : ℕ) (t : Tree) → others self.new n t ≡ others self.old n t }
+        ensures found { IsTrue found_modelled → found self.new ≡ found self.old }
+        ensures left { IsTrue found_modelled → RefinesCall (live self.old) (live self.new) (left self.old) (left self.new)
             Close (λ unit. unit) answered };
 
     /// What holds of every host at any time, told or not: its count of faults is a number of 64 bits, and where it
@@ -569,8 +569,8 @@ pub trait Host {
     fn laws(&self)
         ensures faults { (faults self.now).count ≤ 2 ^ 64 - 1 }
         ensures most { (faults self.now).count ≤ (faults self.now).most }
-        ensures held { IsTrue told → AllHeld (live self.now) (world self.now) }
-        ensures found { IsTrue told → IsTrue tells_found × (found self.now ≡ (world self.now).tree) × (left self.now ≡ world self.now) }
-        ensures others { IsTrue tells_found → found self.now ≡ others self.now 0 (left self.now).tree }
-        ensures alone { IsTrue told → (n : ℕ) (t : Tree) → others self.now n t ≡ t };
+        ensures held { IsTrue modelled → AllHeld (live self.now) (model self.now) }
+        ensures found { IsTrue modelled → IsTrue found_modelled × (found self.now ≡ (model self.now).tree) × (left self.now ≡ model self.now) }
+        ensures others { IsTrue found_modelled → found self.now ≡ others self.now 0 (left self.now).tree }
+        ensures alone { IsTrue modelled → (n : ℕ) (t : Tree) → others self.now n t ≡ t };
 }

@@ -4,7 +4,7 @@ use Rattle.std.specs.FinSet.{contains}
 use Rattle.wasi_host.specs.Answer.{HostAnswer}
 use Rattle.wasi_host.specs.FurtherLaws.{EffectOf, FollowsPlan, Fates, Finds, Follow, Leaves, MayTakeEffect, Others, TakesEffect, changed_to, has_failed, is_failing}
 use Rattle.wasi_host.specs.HostCall.{HostCall, Close}
-use Rattle.wasi_host.specs.HostLaws.{Handles, Told, World, answered, hosted}
+use Rattle.wasi_host.specs.HostLaws.{Handles, RefinesCall, HostModel, answered, hosted}
 use Rattle.wasi_host.specs.Tree.{Tree}
 use Rattle.wasi_host.specs.declared.errors.ErrorCode.{ErrorCode}
 use Rattle.wasi_host.specs.declared.errors.ErrorCode.TheVariants.{Io}
@@ -60,12 +60,12 @@ module _ (tells : Bool) (s : Calls) where
   -- the fates under a list stay with those of the inner host
   pub fates_stay : {f g : Fates} → (IsTrue tells → (n : ℕ) → f n ≡ g n)
       → IsTrue tells → (n : ℕ) → fates_of f s n ≡ fates_of g s n
-  fates_stay {f = f} {g = g} same told = same_fates f g s (same told)
+  fates_stay {f = f} {g = g} same modelled = same_fates f g s (same modelled)
 
   -- and so does what others do
   pub others_stay : {f g : Others} → (IsTrue tells → (n : ℕ) (t : Tree) → f n t ≡ g n t)
       → IsTrue tells → (n : ℕ) (t : Tree) → others_of f s n t ≡ others_of g s n t
-  others_stay {f = f} {g = g} same told = same_others f g s (same told)
+  others_stay {f = f} {g = g} same modelled = same_others f g s (same modelled)
 
 -- the fates after one call of which that becomes by the list
 later_by : (inner inner' : Fates) (s : Calls) {s' : Calls} (fate : InjectedFault) → fate ≡ next_fate s → s' ≡ one_came s
@@ -90,43 +90,43 @@ module _ (tells : Bool) (inner : Others) (s : Calls) {s' : Calls} (after : s' �
   -- after one that isn't listed
   pub follow_passed : {inner' : Others} → Passes ≡ next_fate s → (IsTrue tells → Follow inner inner')
       → IsTrue tells → Follow (others_of inner s) (others_of inner' s')
-  follow_passed {inner' = inner'} is follow told = follow_by inner inner' s Passes is after (follow told)
+  follow_passed {inner' = inner'} is follow modelled = follow_by inner inner' s Passes is after (follow modelled)
 
   -- after one that is made, and its answer lost
   pub follow_after : {inner' : Others} → FailsAfter ≡ next_fate s → (IsTrue tells → Follow inner inner')
       → IsTrue tells → Follow (others_of inner s) (others_of inner' s')
-  follow_after {inner' = inner'} is follow told = follow_by inner inner' s FailsAfter is after (follow told)
+  follow_after {inner' = inner'} is follow modelled = follow_by inner inner' s FailsAfter is after (follow modelled)
 
   -- after one that isn't made
   pub follow_before : FailsBefore ≡ next_fate s → IsTrue tells → Follow (others_of inner s) (others_of inner s')
-  follow_before is told = follow_by inner inner s FailsBefore is after (λ n t. refl)
+  follow_before is modelled = follow_by inner inner s FailsBefore is after (λ n t. refl)
 
 module _ {A : Type 0} (tells : Bool) (inner : Fates) (s : Calls) {inner' : Fates} {s' : Calls} (after : s' ≡ one_came s) where
   -- one that isn't listed
   pub fated_passed : {r : Result A HostError} → Passes ≡ next_fate s → (IsTrue tells → FollowsPlan inner inner' r)
       → IsTrue tells → FollowsPlan (fates_of inner s) (fates_of inner' s') r
-  fated_passed is fated told = record {
-    failed = (fated told).failed ∙ ap (λ f. is_failing (joined f (inner 0))) is;
-    later = later_by inner inner' s Passes is after (fated told).later;
+  fated_passed is fated modelled = record {
+    failed = (fated modelled).failed ∙ ap (λ f. is_failing (joined f (inner 0))) is;
+    later = later_by inner inner' s Passes is after (fated modelled).later;
   }
 
   -- one that is made, and its answer lost
   pub fated_after : {B : Type 0} {r : Result B HostError} → FailsAfter ≡ next_fate s → (IsTrue tells → FollowsPlan inner inner' r)
       → IsTrue tells → FollowsPlan {A = A} (fates_of inner s) (fates_of inner' s') (Err (Code Io))
-  fated_after is fated told = record {
+  fated_after is fated modelled = record {
     failed = elim (inner 0) as (λ f. true ≡ is_failing (joined FailsAfter f)) [
       | Passes ↦ refl
       | FailsBefore ↦ refl
       | FailsAfter ↦ refl
     ] ∙ ap (λ f. is_failing (joined f (inner 0))) is;
-    later = later_by inner inner' s FailsAfter is after (fated told).later;
+    later = later_by inner inner' s FailsAfter is after (fated modelled).later;
   }
 
 -- one that isn't made
 pub fated_before : {A : Type 0} (tells : Bool) (inner : Fates) (s : Calls) {s' : Calls} → s' ≡ one_came s
     → FailsBefore ≡ next_fate s
     → IsTrue tells → FollowsPlan {A = A} (fates_of inner s) (fates_of inner s') (Err (Code Io))
-fated_before tells inner s after is told = record {
+fated_before tells inner s after is modelled = record {
   failed = ap (λ f. is_failing (joined f (inner 0))) is;
   later = later_by inner inner s FailsBefore is after (λ n. refl);
 }
@@ -140,19 +140,19 @@ pub follow_closed : (old mid new : Others) → Follow old mid → ((n : ℕ) (t 
 follow_closed old mid new follow same n t = same n t ∙ follow n t
 
 -- a call whose answer is lost did what it did
-pub told_lost : {A B : Type 0} {old new : Handles} {w v : World} {call : HostCall} {shown : A → HostAnswer call}
-    {shown' : B → HostAnswer call} (r : Result A HostError) → Told old new w v call shown r
-    → Told old new w v call shown' (Err (Code Io))
-told_lost {w = w} {call = call} (Ok a) told = record { meaning = tt; after = inr (inr (free_of w.tree call told.meaning, told.after)); keeps = told.keeps }
-told_lost (Err Memory) told = record { meaning = tt; after = elim told.after [ inl stayed ↦ inl stayed | inr looked ↦ inr (inl looked) ]; keeps = told.keeps }
-told_lost (Err (Code Io)) told = record { meaning = tt; after = told.after; keeps = told.keeps }
-told_lost (Err (Code code)) told = record { meaning = tt; after = inr (inl told.after); keeps = told.keeps }
+pub told_lost : {A B : Type 0} {old new : Handles} {w v : HostModel} {call : HostCall} {shown : A → HostAnswer call}
+    {shown' : B → HostAnswer call} (r : Result A HostError) → RefinesCall old new w v call shown r
+    → RefinesCall old new w v call shown' (Err (Code Io))
+told_lost {w = w} {call = call} (Ok a) modelled = record { meaning = tt; after = inr (inr (free_of w.tree call modelled.meaning, modelled.after)); keeps = modelled.keeps }
+told_lost (Err Memory) modelled = record { meaning = tt; after = elim modelled.after [ inl stayed ↦ inl stayed | inr looked ↦ inr (inl looked) ]; keeps = modelled.keeps }
+told_lost (Err (Code Io)) modelled = record { meaning = tt; after = modelled.after; keeps = modelled.keeps }
+told_lost (Err (Code code)) modelled = record { meaning = tt; after = inr (inl modelled.after); keeps = modelled.keeps }
 
 -- an open whose answer is lost, and the handle that it gave closed again
-module _ {old mid new : Handles} {w u v : World} {call : HostCall} {A B : Type 0} {shown : A → HostAnswer call}
+module _ {old mid new : Handles} {w u v : HostModel} {call : HostCall} {A B : Type 0} {shown : A → HostAnswer call}
     {shown' : B → HostAnswer call} (within : (h : ℕ) → contains old h ≡ true → contains mid h ≡ true)
-    (closed : Told mid new u v Close (λ unit. unit) answered) where
-  pub told_closed : {a : A} → Told old mid w u call shown (Ok a) → Told old new w v call shown' (Err (Code Io))
+    (closed : RefinesCall mid new u v Close (λ unit. unit) answered) where
+  pub told_closed : {a : A} → RefinesCall old mid w u call shown (Ok a) → RefinesCall old new w v call shown' (Err (Code Io))
   told_closed opened = record {
     meaning = tt;
     after = inr (inr (
@@ -165,58 +165,58 @@ module _ {old mid new : Handles} {w u v : World} {call : HostCall} {A B : Type 0
     keeps = λ h old new. closed.keeps h (within h old) new ∙ opened.keeps h old (within h old);
   }
 
-pub finds_lost : {A B : Type 0} {old new : Handles} {left after : World} {found : Tree} {call : HostCall}
+pub finds_lost : {A B : Type 0} {old new : Handles} {left after : HostModel} {found : Tree} {call : HostCall}
     {shown : A → HostAnswer call} {shown' : B → HostAnswer call} (r : Result A HostError)
     → Finds old new left found after call shown r → Finds old new left found after call shown' (Err (Code Io))
-finds_lost r (inl told) = inl (told_lost r told)
+finds_lost r (inl modelled) = inl (told_lost r modelled)
 finds_lost r (inr failed) = inr (refl, failed.1)
 
 -- ---- what a call leaves that fails
 
 -- a call that didn't fail did what its row says, or memory was wanted
-effect_told : {A : Type 0} {old new : Handles} {w v : World} {call : HostCall} {shown : A → HostAnswer call}
-    (r : Result A HostError) → has_failed r ≡ false → Told old new w v call shown r → MayTakeEffect call w v
-effect_told {w = w} {v = v} {call = call} (Ok a) is told =
-    inl (subst (λ a. EffectOf a call w v) (sym told.meaning) told.after)
-effect_told (Err Memory) is told = inr told.after
-effect_told (Err (Code Io)) is told = absurd (cc)
-effect_told {w = w} {v = v} {call = call} (Err (Code code)) is told =
-    inl (subst (λ a. EffectOf a call w v) (sym told.meaning) told.after)
+effect_told : {A : Type 0} {old new : Handles} {w v : HostModel} {call : HostCall} {shown : A → HostAnswer call}
+    (r : Result A HostError) → has_failed r ≡ false → RefinesCall old new w v call shown r → MayTakeEffect call w v
+effect_told {w = w} {v = v} {call = call} (Ok a) is modelled =
+    inl (subst (λ a. EffectOf a call w v) (sym modelled.meaning) modelled.after)
+effect_told (Err Memory) is modelled = inr modelled.after
+effect_told (Err (Code Io)) is modelled = absurd (cc)
+effect_told {w = w} {v = v} {call = call} (Err (Code code)) is modelled =
+    inl (subst (λ a. EffectOf a call w v) (sym modelled.meaning) modelled.after)
 
 -- and where it takes no memory, it did
-effect_hosted : {A : Type 0} {old new : Handles} {w v : World} {call : HostCall} {shown : A → HostAnswer call}
-    (r : Result A ErrorCode) → has_failed (hosted r) ≡ false → Told old new w v call shown (hosted r)
+effect_hosted : {A : Type 0} {old new : Handles} {w v : HostModel} {call : HostCall} {shown : A → HostAnswer call}
+    (r : Result A ErrorCode) → has_failed (hosted r) ≡ false → RefinesCall old new w v call shown (hosted r)
     → TakesEffect call w v
-effect_hosted {w = w} {v = v} {call = call} (Ok a) is told =
-    subst (λ a. EffectOf a call w v) (sym told.meaning) told.after
-effect_hosted (Err Io) is told = absurd (cc)
-effect_hosted {w = w} {v = v} {call = call} (Err code) is told =
-    subst (λ a. EffectOf a call w v) (sym told.meaning) told.after
+effect_hosted {w = w} {v = v} {call = call} (Ok a) is modelled =
+    subst (λ a. EffectOf a call w v) (sym modelled.meaning) modelled.after
+effect_hosted (Err Io) is modelled = absurd (cc)
+effect_hosted {w = w} {v = v} {call = call} (Err code) is modelled =
+    subst (λ a. EffectOf a call w v) (sym modelled.meaning) modelled.after
 
 -- a call that didn't fail was made
-unfailed : {A : Type 0} {old new : Handles} {left after : World} {found : Tree} {call : HostCall}
+unfailed : {A : Type 0} {old new : Handles} {left after : HostModel} {found : Tree} {call : HostCall}
     {shown : A → HostAnswer call} {r : Result A HostError} → has_failed r ≡ false
-    → Finds old new left found after call shown r → Told old new (changed_to found left) after call shown r
-unfailed is (inl told) = told
+    → Finds old new left found after call shown r → RefinesCall old new (changed_to found left) after call shown r
+unfailed is (inl modelled) = modelled
 unfailed is (inr failed) = absurd (cc)
 
 -- what is left by the list and by the inner host, of a call that is made
-left_after : (left after : World) (found : Tree) (Effect : World → World → Type 0) (fate : InjectedFault)
+left_after : (left after : HostModel) (found : Tree) (Effect : HostModel → HostModel → Type 0) (fate : InjectedFault)
     → (fate ≡ Passes → Effect (changed_to found left) after) → Leaves fate left found after Effect
     → Leaves (joined FailsAfter fate) left found after Effect
 left_after left after found Effect Passes passed leaves = passed refl
 left_after left after found Effect FailsBefore passed leaves = leaves
 left_after left after found Effect FailsAfter passed leaves = leaves
 
-module _ (fails finds : Bool) (inner : Fates) (s : Calls) (left after : World) (found : Tree) where
-  abbrev Inner : (World → World → Type 0) → Type 0
+module _ (fails finds : Bool) (inner : Fates) (s : Calls) (left after : HostModel) (found : Tree) where
+  abbrev Inner : (HostModel → HostModel → Type 0) → Type 0
   Inner Effect = IsTrue fails → IsTrue finds → Leaves (inner 0) left found after Effect
 
-  abbrev Listed : InjectedFault → (World → World → Type 0) → Type 0
+  abbrev Listed : InjectedFault → (HostModel → HostModel → Type 0) → Type 0
   Listed fate Effect = IsTrue fails → IsTrue finds → Leaves (joined fate (inner 0)) left found after Effect
 
   -- one that isn't listed
-  pub made_passed : (Effect : World → World → Type 0) → Passes ≡ next_fate s → Inner Effect
+  pub made_passed : (Effect : HostModel → HostModel → Type 0) → Passes ≡ next_fate s → Inner Effect
       → Listed (next_fate s) Effect
   made_passed Effect is made = subst (λ f. Listed f Effect) is made
 
@@ -241,7 +241,7 @@ module _ (fails finds : Bool) (inner : Fates) (s : Calls) (left after : World) (
       effect_hosted r well (unfailed well (did finds))) (made fails finds))
 
   -- one that isn't made
-  pub made_before : (Effect : World → World → Type 0) → after ≡ left → FailsBefore ≡ next_fate s
+  pub made_before : (Effect : HostModel → HostModel → Type 0) → after ≡ left → FailsBefore ≡ next_fate s
       → Listed (next_fate s) Effect
   made_before Effect same is = subst (λ f. Listed f Effect) is (λ fails finds. same)
 

@@ -76,15 +76,15 @@ impl<H: Host> Host for FailAt<H> {
 
     ghost lookups = { λ s. H.lookups s.inner };
 
-    ghost told = { H.told };
+    ghost modelled = { H.modelled };
 
-    ghost world = { λ s. H.world s.inner };
+    ghost model = { λ s. H.model s.inner };
 
-    ghost tells_fails = { H.tells_fails };
+    ghost fails_modelled = { H.fails_modelled };
 
     ghost fails = { λ s. fates_of (H.fails s.inner) s.calls };
 
-    ghost tells_found = { H.tells_found };
+    ghost found_modelled = { H.found_modelled };
 
     ghost others = { λ s. others_of (H.others s.inner) s.calls };
 

@@ -57,6 +57,6 @@ Leaves none_of_it left rest = ReadFront left rest
 
 -- A text that was written under a status: all of it was taken; or the sink failed, and a front of it was taken. The status
 -- of such a fault is the first.
-pub data Written {S : Type 0} (fault : S) (told rose : Type 0) (taken now text : List ℕ) (status : S) : S → Type 0 where
-  whole : (told → now ≡ taken ++ text) → Written fault told rose taken now text status status
-  in_part : rose → (told → TookFront taken now text) → Written fault told rose taken now text status fault
+pub data Written {S : Type 0} (fault : S) (modelled rose : Type 0) (taken now text : List ℕ) (status : S) : S → Type 0 where
+  whole : (modelled → now ≡ taken ++ text) → Written fault modelled rose taken now text status status
+  in_part : rose → (modelled → TookFront taken now text) → Written fault modelled rose taken now text status fault

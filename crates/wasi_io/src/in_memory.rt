@@ -87,7 +87,7 @@ impl BytesSource {
 }
 
 impl Source for BytesSource {
-    ghost told = { true };
+    ghost modelled = { true };
 
     ghost left = { λ s. s.left };
 
@@ -160,7 +160,7 @@ impl BytesSink {
 }
 
 impl Sink for BytesSink {
-    ghost told = { true };
+    ghost modelled = { true };
 
     ghost taken = { λ s. s.taken };
 

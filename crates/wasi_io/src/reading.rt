@@ -24,7 +24,7 @@ pub enum Unfinished {
 /// All that is left of a source, at most 16,777,216 bytes. Of one that tells its bytes at most one more is taken, whatever
 /// the answer.
 pub fn read_all<S: Source>(alloc: Global, source: &mut S) -> Result<Vec<u8>, Unfinished>
-    ensures bytes { IsTrue S.told → ReadAll (result_map_both (λ v. v.items) (λ e. e) result) (S.left source.old) (S.left source.new) }
+    ensures bytes { IsTrue S.modelled → ReadAll (result_map_both (λ v. v.items) (λ e. e) result) (S.left source.old) (S.left source.new) }
     ensures most { IfOk result (λ v. length v.items ≤ most_bytes) }
     ensures count { S.faults source.old ≤ S.faults source.new }
     ensures cause { IsErrOf result Unfinished.Fault → Risen (S.faults source.old) (S.faults source.new) }
@@ -43,7 +43,7 @@ fn read_by<S: Source>(
     chunk: &mut [u8],
 ) -> Result<Vec<u8>, Unfinished>
     requires { 0 < length chunk.old }
-    ensures bytes { IsTrue S.told → ReadAll (result_map_both (λ v. v.items) (λ e. e) result) (S.left source.old) (S.left source.new) }
+    ensures bytes { IsTrue S.modelled → ReadAll (result_map_both (λ v. v.items) (λ e. e) result) (S.left source.old) (S.left source.new) }
     ensures most { IfOk result (λ v. length v.items ≤ most_bytes) }
     ensures count { S.faults source.old ≤ S.faults source.new }
     ensures cause { IsErrOf result Unfinished.Fault → Risen (S.faults source.old) (S.faults source.new) }

@@ -13,7 +13,7 @@ pub struct Failed;
 /// Where bytes come from.
 pub trait Source {
     /// Whether it tells the bytes that are left.
-    ghost told: { Bool };
+    ghost modelled: { Bool };
 
     /// The bytes that are left, where it tells them.
     ghost left: { Self → List ℕ };
@@ -26,8 +26,8 @@ pub trait Source {
     /// it, and none of its bytes is lost then.
     fn read(&mut self, buf: &mut [u8]) -> Result<usize, Failed>
         ensures fits { IfOk result (λ n. n ≤ length buf.old) }
-        ensures bytes { IsTrue told → IfOk result (λ n. Gave (left self.old) (left self.new) buf.new n) }
-        ensures none { IsTrue told → OnErr result (left self.new ≡ left self.old) }
+        ensures bytes { IsTrue modelled → IfOk result (λ n. Gave (left self.old) (left self.new) buf.new n) }
+        ensures none { IsTrue modelled → OnErr result (left self.new ≡ left self.old) }
         ensures rest { IfOk result (λ n. drop n buf.new ≡ drop n buf.old) }
         ensures kept { OnErr result (buf.new ≡ buf.old) }
         ensures count { faults self.old ≤ faults self.new }
@@ -37,7 +37,7 @@ pub trait Source {
 /// Where bytes go.
 pub trait Sink {
     /// Whether it tells the bytes that it took.
-    ghost told: { Bool };
+    ghost modelled: { Bool };
 
     /// The bytes that it took, where it tells them.
     ghost taken: { Self → List ℕ };
@@ -48,8 +48,8 @@ pub trait Sink {
     /// Takes a front of the piece, and answers how many bytes it has.
     fn write(&mut self, piece: &[u8]) -> Result<usize, Failed>
         ensures fits { IfOk result (λ n. n ≤ length piece.now) }
-        ensures bytes { IsTrue told → IfOk result (λ n. taken self.new ≡ taken self.old ++ take n piece.now) }
-        ensures none { IsTrue told → OnErr result (taken self.new ≡ taken self.old) }
+        ensures bytes { IsTrue modelled → IfOk result (λ n. taken self.new ≡ taken self.old ++ take n piece.now) }
+        ensures none { IsTrue modelled → OnErr result (taken self.new ≡ taken self.old) }
         ensures count { faults self.old ≤ faults self.new }
         ensures cause { OnErr result (Risen (faults self.old) (faults self.new)) }
         ensures stuck { IfOk result (λ n. n ≡ 0 → 0 < length piece.now → Risen (faults self.old) (faults self.new)) };

@@ -41,7 +41,7 @@ impl<R: Read> ReaderSource<R> {
 }
 
 impl<R: Read> Source for ReaderSource<R> {
-    ghost told = { false };
+    ghost modelled = { false };
 
     ghost left = { λ _. [] };
 
@@ -99,7 +99,7 @@ impl<W: Write> WriterSink<W> {
 }
 
 impl<W: Write> Sink for WriterSink<W> {
-    ghost told = { false };
+    ghost modelled = { false };
 
     ghost taken = { λ _. [] };
 

@@ -7,10 +7,10 @@ use Rattle.wasi_tree_index.specs.DirEntryKeys.{AllNames, names_at}
 use Rattle.wasi_tree.specs.ParentOf.{AreParents, IsKept}
 use Rattle.wasi_tree.specs.Sound.{IsSound, IsSoundNode}
 use Rattle.wasi_tree.specs.StoredTree.{named_content, named_from}
-use Rattle.wasi_overlay.specs.OverStore.{IsOver, Parts, tree_over}
+use Rattle.wasi_overlay.specs.OverStore.{IsOver, OverlayParts, tree_over}
 
 -- these parts are those of a tree, with its names and its parents, and nothing has been worked on
-pub record Begun (t : Tree) (stood : List (Option ℕ)) (s : Parts) (noted : List (Option ℕ)) : Type 0 where
+pub record Begun (t : Tree) (stood : List (Option ℕ)) (s : OverlayParts) (noted : List (Option ℕ)) : Type 0 where
   pub nodes : s.nodes ≡ t.nodes
   pub here : (d : ℕ) → is_directory (node_at t d).content ≡ true → names_at s.names d ≡ names_of (node_at t d).content
   pub past : (d : ℕ) → next_of t ≤ d → names_at s.names d ≡ maps.empty
@@ -66,7 +66,7 @@ from_self m k (node ∷ nodes) here = λ i.
     later j within directory = let same : (k + 1) + j ≡ k + suc j = omega arith in
         ap (names_at m) same ∙ here (suc j) (omega arith) directory
 
-module _ {t : Tree} {stood noted : List (Option ℕ)} {s : Parts} (begun : Begun t stood s noted) where
+module _ {t : Tree} {stood noted : List (Option ℕ)} {s : OverlayParts} (begun : Begun t stood s noted) where
   pub begun_tree : tree_over s ≡ unworked t
   unfolding node_at
   begun_tree = λ i. let u : Tree = record {

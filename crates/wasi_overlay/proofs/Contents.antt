@@ -4,24 +4,24 @@ use Rattle.std.proofs.lemmas.List.{map_push, take_more}
 use Rattle.std.specs.FinMap as maps
 use Rattle.wasi_host.specs.Answer.{metadata_of}
 use Rattle.wasi_host.specs.Tree.{Tree, Node, node_at, next_of, stray, Content, File, Directory, Link, bytes_of, text_of, is_directory, is_file, names_of}
-use Rattle.wasi_tree.specs.Given.{file, directory, link, content_given}
+use Rattle.wasi_tree.specs.NodeData.{file, directory, link, data_of_content}
 
-pub given_directory : (c : Content) (entries : List (List ℕ × ℕ)) → is_directory c ≡ true
-    → entries ≡ maps.entries (names_of c) → directory entries ≡ content_given c
-given_directory (File bytes links) entries is same = absurd (cc)
-given_directory (Directory names gone) entries is same = ap directory same
-given_directory (Link text links) entries is same = absurd (cc)
+pub data_of_directory : (c : Content) (entries : List (List ℕ × ℕ)) → is_directory c ≡ true
+    → entries ≡ maps.entries (names_of c) → directory entries ≡ data_of_content c
+data_of_directory (File bytes links) entries is same = absurd (cc)
+data_of_directory (Directory names gone) entries is same = ap directory same
+data_of_directory (Link text links) entries is same = absurd (cc)
 
-pub given_file : (c : Content) (bytes : List ℕ) → is_file c ≡ true → bytes ≡ bytes_of c → file bytes ≡ content_given c
-given_file (File old links) bytes is same = ap file same
-given_file (Directory names gone) bytes is same = absurd (cc)
-given_file (Link text links) bytes is same = absurd (cc)
+pub data_of_file : (c : Content) (bytes : List ℕ) → is_file c ≡ true → bytes ≡ bytes_of c → file bytes ≡ data_of_content c
+data_of_file (File old links) bytes is same = ap file same
+data_of_file (Directory names gone) bytes is same = absurd (cc)
+data_of_file (Link text links) bytes is same = absurd (cc)
 
-pub given_link : (c : Content) (text : List ℕ) → is_directory c ≡ false → is_file c ≡ false → text ≡ text_of c
-    → link text ≡ content_given c
-given_link (File bytes links) text no_directory no_file same = absurd (cc)
-given_link (Directory names gone) text no_directory no_file same = absurd (cc)
-given_link (Link old links) text no_directory no_file same = ap link same
+pub data_of_link : (c : Content) (text : List ℕ) → is_directory c ≡ false → is_file c ≡ false → text ≡ text_of c
+    → link text ≡ data_of_content c
+data_of_link (File bytes links) text no_directory no_file same = absurd (cc)
+data_of_link (Directory names gone) text no_directory no_file same = absurd (cc)
+data_of_link (Link old links) text no_directory no_file same = ap link same
 
 -- metadata tell a node's times
 pub times_of : (t : Tree) (n : ℕ) → ((metadata_of t n).atime ≡ (node_at t n).atime)

@@ -25,26 +25,26 @@ grown_base t made n within = stays_at t.nodes made n within
 made_at : (made : List Inode) (k : ℕ) (d : Inode) → k < length made
     → stored_node (slice_index_or made k d) ≡ slice_index_or (map stored_node made) k stray
 made_at [] k d within = absurd (omega arith)
-made_at (row ∷ made) zero d within = refl
-made_at (row ∷ made) (suc k) d within = made_at made k d (omega arith)
+made_at (inode ∷ made) zero d within = refl
+made_at (inode ∷ made) (suc k) d within = made_at made k d (omega arith)
 
 -- a node that was made
-pub grown_made : (base : List Node) (made : List Inode) (n : ℕ) (row : Inode) → length base ≤ n → n < length (grown base made)
-    → row ≡ slice_index_or made (n - length base) row
-    → stored_node row ≡ slice_index_or (grown base made) n stray
-grown_made [] made n row past within is =
+pub grown_made : (base : List Node) (made : List Inode) (n : ℕ) (inode : Inode) → length base ≤ n → n < length (grown base made)
+    → inode ≡ slice_index_or made (n - length base) inode
+    → stored_node inode ≡ slice_index_or (grown base made) n stray
+grown_made [] made n inode past within is =
     let same : n - 0 ≡ n = omega arith in
-    ap stored_node (is ∙ ap (λ k. slice_index_or made k row) same)
-    ∙ made_at made n row (omega (arith, within, length-map made stored_node))
-grown_made (node ∷ base) made zero row past within is = absurd (omega arith)
-grown_made (node ∷ base) made (suc n) row past within is =
+    ap stored_node (is ∙ ap (λ k. slice_index_or made k inode) same)
+    ∙ made_at made n inode (omega (arith, within, length-map made stored_node))
+grown_made (node ∷ base) made zero inode past within is = absurd (omega arith)
+grown_made (node ∷ base) made (suc n) inode past within is =
     let same : suc n - suc (length base) ≡ n - length base = omega arith in
-    grown_made base made n row (omega arith) (omega arith) (is ∙ ap (λ k. slice_index_or made k row) same)
+    grown_made base made n inode (omega arith) (omega arith) (is ∙ ap (λ k. slice_index_or made k inode) same)
 
 -- one node more
-pub grown_push : (base : List Node) (made : List Inode) (row : Inode)
-    → grown base (made ++ row ∷ []) ≡ grown base made ++ stored_node row ∷ []
-grown_push [] made row = map_push stored_node made row
-grown_push (node ∷ base) made row = ap (λ nodes. node ∷ nodes) (grown_push base made row)
+pub grown_push : (base : List Node) (made : List Inode) (inode : Inode)
+    → grown base (made ++ inode ∷ []) ≡ grown base made ++ stored_node inode ∷ []
+grown_push [] made inode = map_push stored_node made inode
+grown_push (node ∷ base) made inode = ap (λ nodes. node ∷ nodes) (grown_push base made inode)
 
 pub ruleset grown_rules = (length-grown, grown_base, grown_made, grown_push)

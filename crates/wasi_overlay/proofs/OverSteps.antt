@@ -17,11 +17,11 @@ use Rattle.wasi_tree_index.specs.DirEntryKeys.{AllNames}
 use Rattle.wasi_tree.proofs.MoveLemmas.{moved_as, put_from}
 use Rattle.wasi_tree.proofs.NamedLemmas.{below_more, below-insert, below-remove, unnamed-name_lost, unnamed-one_name_more, unnamed-other_bytes}
 use Rattle.wasi_tree.proofs.SoundLemmas.{seen, seen-other_bytes, stays_same}
-use Rattle.wasi_overlay.specs.OverStore.{IsOver, Parts, nodes_lost, tree_over, worked_lost}
+use Rattle.wasi_overlay.specs.OverStore.{IsOver, OverlayParts, nodes_lost, tree_over, worked_lost}
 use Rattle.wasi_overlay.proofs.Steps.{Fits, Keeps, keeps_content, keeps_seen, keeps_linked, keeps_dropped, keeps_made, keeps_moved}
 use Rattle.wasi_overlay.proofs.TreeOver.{over_changed, over_made, over_next, over_put_name, over_take_name, over_timed}
 
-pub fits_of : {s : Parts} {parents : List (Option ℕ)} → IsOver s parents → Fits (tree_over s) parents
+pub fits_of : {s : OverlayParts} {parents : List (Option ℕ)} → IsOver s parents → Fits (tree_over s) parents
 fits_of over = record { sound = over.sound; kept = over.kept }
 
 -- what a store shows
@@ -31,12 +31,12 @@ pub shown_as : {now touched : Nodes} {t u : Tree} → t ≡ u → now ≡ touche
 shown_as tree touched = λ i. let shown : Touched = record { tree = tree i; touched = touched i } in shown
 
 -- the parts after a step that keeps what holds
-pub record IsStep (s after : Parts) (u : Tree) (parents : List (Option ℕ)) : Type 0 where
+pub record IsStep (s after : OverlayParts) (u : Tree) (parents : List (Option ℕ)) : Type 0 where
   pub is : tree_over after ≡ u
   pub keeps : Keeps (tree_over s) u parents
   pub below : AreBelow after.names (length after.nodes)
 
-module _ {s after : Parts} {u : Tree} {parents : List (Option ℕ)} (step : IsStep s after u parents) where
+module _ {s after : OverlayParts} {u : Tree} {parents : List (Option ℕ)} (step : IsStep s after u parents) where
   pub over_after : IsOver after parents
   over_after = record {
     sound = subst (λ v. IsSound v (next_of v)) (sym step.is) step.keeps.fits.sound;
@@ -55,18 +55,18 @@ pub record IsPlain (f : Content → Content) : Type 0 where
   pub same : (c : Content) → seen (f c) ≡ seen c
 
 -- the node of a number has another content, and was worked on
-pub record IsWritten (f : Content → Content) (s after : Parts) (n : ℕ) : Type 0 where
+pub record IsWritten (f : Content → Content) (s after : OverlayParts) (n : ℕ) : Type 0 where
   pub within : n < length s.nodes
   pub nodes : after.nodes ≡ slice_set s.nodes n (with_content (slice_index_or s.nodes n stray) f)
   pub worked : after.worked ≡ insert s.worked n
   pub names : after.names ≡ s.names
   pub limits : after.limits ≡ s.limits
 
-pub writes : {f : Content → Content} {s after : Parts} {n : ℕ} {parents : List (Option ℕ)} → IsPlain f
+pub writes : {f : Content → Content} {s after : OverlayParts} {n : ℕ} {parents : List (Option ℕ)} → IsPlain f
     → IsWritten f s after n → IsOver s parents → IsStep s after (content_changed (tree_over s) n f) parents
 writes {f} {s} {after} {n} plain written over = record {
   is =
-      (λ i. let parts : Parts = record {
+      (λ i. let parts : OverlayParts = record {
         nodes = written.nodes i;
         names = written.names i;
         limits = written.limits i;
@@ -87,7 +87,7 @@ pub plain_bytes : (change : List ℕ → List ℕ) → IsPlain (other_bytes chan
 plain_bytes change = record { unnamed = unnamed-other_bytes change; same = seen-other_bytes change }
 
 -- a node's times are set
-pub times : {s after : Parts} {n : ℕ} {parents : List (Option ℕ)} (atime mtime : Option SystemTime) → n < length s.nodes
+pub times : {s after : OverlayParts} {n : ℕ} {parents : List (Option ℕ)} (atime mtime : Option SystemTime) → n < length s.nodes
     → after ≡ record s { nodes = slice_set s.nodes n (with_times (slice_index_or s.nodes n stray) atime mtime); worked = insert s.worked n }
     → IsOver s parents → IsStep s after (times_set (tree_over s) n atime mtime) parents
 times {s} {after} {n} {parents} atime mtime within is over =
@@ -102,7 +102,7 @@ times {s} {after} {n} {parents} atime mtime within is over =
 -- ---- names
 
 -- a name is put, and the node that gets it counts it
-pub links : {s after : Parts} {d n : ℕ} {name : List ℕ} {parents : List (Option ℕ)} → MayGain (tree_over s) d name n
+pub links : {s after : OverlayParts} {d n : ℕ} {name : List ℕ} {parents : List (Option ℕ)} → MayGain (tree_over s) d name n
     → after ≡ record s {
       nodes = slice_set s.nodes n (with_content (slice_index_or s.nodes n stray) one_name_more);
       names = maps.insert s.names (d, name) n;
@@ -112,7 +112,7 @@ links {s} {after} {d} {n} {name} {parents} gains is over =
     let t = tree_over s in
     let within : n < length s.nodes = omega (arith, gains.within, over_next s) in
     let directory = gains.may.directory in
-    let half : Parts = record s { names = maps.insert s.names (d, name) n; worked = insert s.worked d } in
+    let half : OverlayParts = record s { names = maps.insert s.names (d, name) n; worked = insert s.worked d } in
     subst (λ parts. IsStep s parts (name_added t d name n) parents) (sym is) (record {
       is = over_changed half one_name_more unnamed-one_name_more n within
           ∙ ap (λ (u : Tree). content_changed u n one_name_more) (over_put_name s d directory name n)
@@ -123,7 +123,7 @@ links {s} {after} {d} {n} {name} {parents} gains is over =
     })
 
 -- a name is taken, and the node that had it has one fewer
-pub drops : {s after : Parts} {d n : ℕ} {name : List ℕ} {parents : List (Option ℕ)} → HasName (tree_over s) d name n
+pub drops : {s after : OverlayParts} {d n : ℕ} {name : List ℕ} {parents : List (Option ℕ)} → HasName (tree_over s) d name n
     → after ≡ record s {
       nodes = slice_set s.nodes n (with_content (slice_index_or s.nodes n stray) name_lost);
       names = maps.remove s.names (d, name);
@@ -134,7 +134,7 @@ drops {s} {after} {d} {n} {name} {parents} has is over =
     let t = tree_over s in
     let within : n < length s.nodes = omega (arith, has.within, over_next s) in
     let directory = has.directory in
-    let half : Parts = record s { names = maps.remove s.names (d, name); worked = insert s.worked d } in
+    let half : OverlayParts = record s { names = maps.remove s.names (d, name); worked = insert s.worked d } in
     subst (λ parts. IsStep s parts (name_dropped t d name name_lost n) (slice_set parents n None)) (sym is) (record {
       is = over_changed half name_lost unnamed-name_lost n within
           ∙ ap (λ (u : Tree). content_changed u n name_lost) (over_take_name s d directory name)
@@ -145,7 +145,7 @@ drops {s} {after} {d} {n} {name} {parents} has is over =
     })
 
 -- a node more, under a name that its directory lacks
-pub makes : {s after : Parts} {d : ℕ} {name : List ℕ} {node : Node} {parents : List (Option ℕ)} → MayName (tree_over s) d name
+pub makes : {s after : OverlayParts} {d : ℕ} {name : List ℕ} {node : Node} {parents : List (Option ℕ)} → MayName (tree_over s) d name
     → IsSoundNode 0 node → with_names maps.empty node ≡ node → after ≡ record s {
       nodes = s.nodes ++ node ∷ [];
       names = maps.insert s.names (d, name) (length s.nodes);
@@ -161,10 +161,10 @@ makes {s} {after} {d} {name} {node} {parents} may sound bare is over =
     })
 
 -- what a name held, if it held something, has one fewer
-abbrev pub parts_lost : Parts → Option ℕ → Parts
+abbrev pub parts_lost : OverlayParts → Option ℕ → OverlayParts
 parts_lost s there = record s { nodes = nodes_lost s.nodes there; worked = worked_lost s.worked there }
 
-lost_is : (s : Parts) (there : Option ℕ) → ((m : ℕ) → there ≡ Some m → m < length s.nodes)
+lost_is : (s : OverlayParts) (there : Option ℕ) → ((m : ℕ) → there ≡ Some m → m < length s.nodes)
     → tree_over (parts_lost s there) ≡ found_lost (tree_over s) there
 lost_is s None inside = refl
 lost_is s (Some m) inside = over_changed s name_lost unnamed-name_lost m (inside m refl)
@@ -174,9 +174,9 @@ length-lost nodes None = refl
 length-lost nodes (Some m) = length-set nodes m (with_content (slice_index_or nodes m stray) name_lost)
 
 -- a name moves to another, and what that held loses it
-pub moves : {s after : Parts} {old new n : ℕ} {old_name new_name : List ℕ} {there : Option ℕ} {parents : List (Option ℕ)}
+pub moves : {s after : OverlayParts} {old new n : ℕ} {old_name new_name : List ℕ} {there : Option ℕ} {parents : List (Option ℕ)}
     → IsMove (tree_over s) old old_name new new_name n there
-    → (let half : Parts = parts_lost (record s { worked = insert s.worked new }) there in
+    → (let half : OverlayParts = parts_lost (record s { worked = insert s.worked new }) there in
     after ≡ record half {
       names = maps.remove (maps.insert s.names (new, new_name) n) (old, old_name);
       worked = insert half.worked old;
@@ -186,9 +186,9 @@ pub moves : {s after : Parts} {old new n : ℕ} {old_name new_name : List ℕ} {
 moves {s} {after} {old} {new} {n} {old_name} {new_name} {there} {parents} may is over =
     let t = tree_over s in
     let names : AllNames = maps.insert s.names (new, new_name) n in
-    let half : Parts = record s { names = names; worked = insert s.worked new } in
+    let half : OverlayParts = record s { names = names; worked = insert s.worked new } in
     let put : tree_over half ≡ content_changed t new (with_entry new_name n) = over_put_name s new may.to new_name n in
-    let lost : Parts = parts_lost half there in
+    let lost : OverlayParts = parts_lost half there in
     let lost_tree : tree_over lost ≡ found_lost (content_changed t new (with_entry new_name n)) there =
     lost_is half there (λ m here. omega (arith, (may.lost m here).0, over_next s))
     ∙ ap (λ (u : Tree). found_lost u there) put in
@@ -199,7 +199,7 @@ moves {s} {after} {old} {new} {n} {old_name} {new_name} {there} {parents} may is
           ∙ ap (λ (u : Tree). content_changed u old (without_entry old_name)) lost_tree
           ∙ moved_as t old new n old_name new_name there may;
       keeps = keeps_moved may (fits_of over);
-      below = subst (λ (parts : Parts). AreBelow parts.names (length parts.nodes)) (sym is)
+      below = subst (λ (parts : OverlayParts). AreBelow parts.names (length parts.nodes)) (sym is)
           (below_more (omega (arith, length-lost half.nodes there))
           (below-remove old old_name (omega (arith, directory_within t old may.from, over_next s))
           (below-insert new new_name n (omega (arith, directory_within t new may.to, over_next s)) over.below)));
@@ -208,12 +208,12 @@ moves {s} {after} {old} {new} {n} {old_name} {new_name} {there} {parents} may is
 -- ---- of what may want memory
 
 -- the step was made, or nothing has changed
-pub record MaybeStep {A E : Type 0} (result : Result A E) (s after : Parts) (u : Tree) (parents : List (Option ℕ)) : Type 0 where
+pub record MaybeStep {A E : Type 0} (result : Result A E) (s after : OverlayParts) (u : Tree) (parents : List (Option ℕ)) : Type 0 where
   pub over : IsOver after parents
   pub stays : NodesStay (tree_over s) (tree_over after)
   pub is : OnOk result (tree_over after ≡ u)
 
-pub maybe_writes : {A E : Type 0} (result : Result A E) {f : Content → Content} {s after : Parts} (n : ℕ)
+pub maybe_writes : {A E : Type 0} (result : Result A E) {f : Content → Content} {s after : OverlayParts} (n : ℕ)
     {parents : List (Option ℕ)} → IsPlain f → OnOk result (IsWritten f s after n) → OnErr result (after ≡ s)
     → IsOver s parents → MaybeStep result s after (content_changed (tree_over s) n f) parents
 maybe_writes (Ok a) n plain written same over =

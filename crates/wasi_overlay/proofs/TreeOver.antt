@@ -13,9 +13,9 @@ use Rattle.wasi_tree_index.specs.DirEntryKeys.{AllNames, names_at}
 use Rattle.wasi_tree_index.proofs.NamesLemmas.{names_at-insert_other}
 use Rattle.wasi_tree.specs.StoredTree.{with_names, named_content, named_from, AreBelow}
 use Rattle.wasi_tree.proofs.NamedLemmas.{said_of-named, length-named, named_node, named_put, named_push, named_more, named_less, apart_from}
-use Rattle.wasi_overlay.specs.OverStore.{Overlaid, Parts, tree_over}
+use Rattle.wasi_overlay.specs.OverStore.{Overlaid, OverlayParts, tree_over}
 
-module _ (s : Parts) where
+module _ (s : OverlayParts) where
   abbrev t : Tree
   t = tree_over s
 
@@ -143,7 +143,7 @@ module _ (s : Parts) where
         } in u
 
 -- what a store shows: a number within its tree is within its list
-pub within_over : (s : Parts) {touched held : Nodes} {o : Overlaid} {n : ℕ}
+pub within_over : (s : OverlayParts) {touched held : Nodes} {o : Overlaid} {n : ℕ}
     → (let shown : Overlaid = record { tree = tree_over s; touched = touched; held = held } in shown) ≡ o → n < next_of o.tree
     → n < length s.nodes
 within_over s is within = omega (arith, within, sym (ap (λ (o : Overlaid). next_of o.tree) is) ∙ over_next s)

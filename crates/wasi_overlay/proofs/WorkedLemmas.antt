@@ -14,7 +14,7 @@ use Rattle.std.specs.Ordering.{nat_cmp}
 use Rattle.std.specs.Prelude.{All, Contains, IfOk, option_to_list, is_none}
 use Rattle.wasi_host.specs.Answer.{HostAnswer}
 use Rattle.wasi_host.specs.HostCall.{HostCall, OpenAt, StatAt, ReadLinkAt, MakeDirAt, SymlinkAt, LinkAt, RenameAt, UnlinkAt, RemoveDirAt, TimesAt, Access, Stat, SetTimes, Pread, Pwrite, Append, SetSize, Sync, Advise, Flags, ListDir, Dup, Close}
-use Rattle.wasi_host.specs.HostLaws.{Handles, Told, Stepped, Looked, Stayed}
+use Rattle.wasi_host.specs.HostLaws.{Handles, RefinesCall, Stepped, Looked, Stayed}
 use Rattle.wasi_host.specs.Options.{Options}
 use Rattle.wasi_host.specs.Step.{step, with_nodes, open_step, opened_step, is_cut, file_cut, write_step, link_step, added_step, unlink_step, remove_step, dropped_step, one_name_less, made_gone, rename_step, moved_step, name_moved_onto, times_step, times_set_if, found_under, found_by, made_by}
 use Rattle.wasi_host.specs.Tree.{Tree, Nodes, Content, child, next_of, node_at, bytes_of, hold_one}
@@ -22,7 +22,7 @@ use Rattle.wasi_host.specs.declared.errors.ErrorCode.TheVariants.{Io}
 use Rattle.wasi_host.specs.declared.errors.HostError.{HostError}
 use Rattle.wasi_host.specs.declared.errors.HostError.TheVariants.{Code, Memory}
 use Rattle.wasi_host.specs.declared.system_time.SystemTime.{SystemTime}
-use Rattle.wasi_tree.specs.MemState.{MemState, world_of}
+use Rattle.wasi_tree.specs.MemState.{MemState, model_of}
 use Rattle.wasi_host.proofs.Chain.{contains-with_nodes}
 use Rattle.wasi_host.proofs.Touching.{one_of, or_left, or_right}
 use Rattle.wasi_overlay.specs.Overlay.{WorksOnTouched}
@@ -167,19 +167,19 @@ module _ {m m' : MemState} (was : WorksOnTouched m) where
     touched = λ n is. ap (λ s. contains s n) touched ∙ within n (sym (ap (λ s. contains s n) worked) ∙ is);
   }
 
-  after_step : {call : HostCall} → Stepped (world_of m) call (world_of m') → WorksOnTouched m'
+  after_step : {call : HostCall} → Stepped (model_of m) call (model_of m') → WorksOnTouched m'
   after_step {call} by =
       carried (ap (λ (t : Tree). t.worked) by.tree) by.touched (worked_by m.tree m.touched was.touched call)
 
-  after_look : {call : HostCall} → Looked (world_of m) call (world_of m') → WorksOnTouched m'
+  after_look : {call : HostCall} → Looked (model_of m) call (model_of m') → WorksOnTouched m'
   after_look {call} by =
       carried (ap (λ (t : Tree). t.worked) by.tree) by.touched (none m.tree m.touched was.touched (found_by m.tree call))
 
-  after_none : Stayed (world_of m) (world_of m') → WorksOnTouched m'
+  after_none : Stayed (model_of m) (model_of m') → WorksOnTouched m'
   after_none by = carried (ap (λ (t : Tree). t.worked) by.tree) by.touched was.touched
 
   after : {A : Type 0} {old new : Handles} {call : HostCall} {shown : A → HostAnswer call} (r : Result A HostError)
-      → Told old new (world_of m) (world_of m') call shown r → WorksOnTouched m'
+      → RefinesCall old new (model_of m) (model_of m') call shown r → WorksOnTouched m'
   after (Ok a) told = after_step told.after
   after (Err Memory) told = elim told.after [ inl stayed ↦ after_none stayed | inr looked ↦ after_look looked ]
   after (Err (Code Io)) told = elim told.after [
@@ -191,7 +191,7 @@ module _ {m m' : MemState} (was : WorksOnTouched m) where
 
   -- a call of a host that tells its world leaves it so
   pub works_on_touched : {A : Type 0} {old new : Handles} {call : HostCall} {shown : A → HostAnswer call}
-      {r : Result A HostError} → (IsTrue true → Told old new (world_of m) (world_of m') call shown r) → WorksOnTouched m'
+      {r : Result A HostError} → (IsTrue true → RefinesCall old new (model_of m) (model_of m') call shown r) → WorksOnTouched m'
   works_on_touched {r = r} told = after r (told refl)
 
 -- ---- what is listed

@@ -7,7 +7,7 @@ use Rattle.std.specs.Global.{Vec}
 use Rattle.std.specs.Ordering.{nat_cmp}
 use Rattle.wasi_host.specs.Tree.{Node, Content, File, Directory, Link, Nodes, is_gone, links_of}
 use Rattle.wasi_host.specs.declared.system_time.SystemTime.{SystemTime}
-use Rattle.wasi_overlay.specs.contracts.seat.Seat as row
+use Rattle.wasi_overlay.specs.contracts.seat.Seat as inode
 use Rattle.wasi_overlay.specs.declared.kept.Kept.{Kept}
 use Rattle.wasi_overlay.specs.declared.seat.Mark.{Mark}
 use Rattle.wasi_overlay.specs.declared.seat.Mark.TheVariants.{Worked, Touched}
@@ -18,7 +18,7 @@ abbrev pub SeatMap : Type 0
 SeatMap = maps.FinMap nat_cmp Seat
 
 abbrev pub seats_code : Coded SeatMap
-seats_code = maps.code coded_ℕ row.the_row.coded
+seats_code = maps.code coded_ℕ inode.the_row.coded
 
 -- bytes of its own, or those below
 abbrev pub bytes_over : Option (Vec ℕ) → List ℕ → List ℕ

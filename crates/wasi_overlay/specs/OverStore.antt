@@ -13,17 +13,17 @@ use Rattle.wasi_tree.specs.Sound.{IsSound}
 use Rattle.wasi_tree.specs.StoredTree.{named_from, AreBelow}
 
 -- nodes, the names of all directories, the limits, and the nodes that have been worked on
-pub record Parts : Type 0 where
+pub record OverlayParts : Type 0 where
   pub nodes : List Node
   pub names : AllNames
   pub limits : Limits
   pub worked : Nodes
 
-abbrev pub parts_of : OverState → AllNames → Limits → Parts
-parts_of nodes names limits = record { nodes = nodes.nodes; names = names; limits = limits; worked = nodes.worked }
+abbrev pub overlay_parts : OverState → AllNames → Limits → OverlayParts
+overlay_parts nodes names limits = record { nodes = nodes.nodes; names = names; limits = limits; worked = nodes.worked }
 
 -- their tree: each directory has its names
-abbrev pub tree_over : Parts → Tree
+abbrev pub tree_over : OverlayParts → Tree
 tree_over s = record { nodes = named_from s.names 0 s.nodes; limits = s.limits; worked = s.worked }
 
 -- the merged tree, the touched nodes, and those that have room
@@ -40,7 +40,7 @@ overlaid_code =
     (λ _. refl)
 
 -- Each node is sound, no name is one of a directory that isn't there, and the parents are those of the tree.
-pub record IsOver (s : Parts) (parents : List (Option ℕ)) : Type 0 where
+pub record IsOver (s : OverlayParts) (parents : List (Option ℕ)) : Type 0 where
   pub sound : IsSound (tree_over s) (next_of (tree_over s))
   pub below : AreBelow s.names (length s.nodes)
   pub kept : IsKept (tree_over s) (next_of (tree_over s)) parents

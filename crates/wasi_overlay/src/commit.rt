@@ -18,27 +18,27 @@ impl<'a> OverStore<'a> {
         ensures tree { IfOk result (λ m. m.tree ≡ record self.now.tree { worked = empty }) }
         ensures touched { IfOk result (λ m. m.touched ≡ empty) }
     {
-        let rows = self.copy_rows(alloc)?;
+        let rows = self.copy_inodes(alloc)?;
         let names = self.copy_names(alloc)?;
         let parents = self.parents.to_vec(alloc)?;
-        MemStore::of_rows(alloc, rows, names, parents, self.limits)
+        MemStore::of_stored(alloc, rows, names, parents, self.limits)
     }
 
     /// A row of each node.
-    fn copy_rows(&self, alloc: Global) -> Result<Vec<Inode>, AllocError>
+    fn copy_inodes(&self, alloc: Global) -> Result<Vec<Inode>, AllocError>
         ensures { IfOk result (λ rows. map stored_node rows.items ≡ map (with_names maps.empty) self.now.tree.nodes) }
     {
         let mut rows = Vec::new(alloc);
         for n in 0..self.count() {
-            rows.push(self.copy_row(alloc, n)?)?;
+            rows.push(self.copy_inode(alloc, n)?)?;
         }
         Ok(rows)
     }
 
     /// The row of a node, without a directory's names.
-    fn copy_row(&self, alloc: Global, n: u64) -> Result<Inode, AllocError>
+    fn copy_inode(&self, alloc: Global, n: u64) -> Result<Inode, AllocError>
         requires { n < next_of self.now.tree }
-        ensures { IfOk result (λ row. stored_node row ≡ with_names maps.empty (node_at self.now.tree n)) }
+        ensures { IfOk result (λ inode. stored_node inode ≡ with_names maps.empty (node_at self.now.tree n)) }
     {
         let Metadata {
             atime,

@@ -68,8 +68,8 @@ impl<'a> Grown<'a> {
         if n >= self.count() {
             return false;
         }
-        match row_of(self.base, self.made.as_slice(), n) {
-            Some(row) => row.content.is_directory(),
+        match inode_of(self.base, self.made.as_slice(), n) {
+            Some(inode) => inode.content.is_directory(),
             None => self.base.is_directory(n),
         }
     }
@@ -80,8 +80,8 @@ impl<'a> Grown<'a> {
         requires { n < length self.now.nodes }
         ensures { result ≡ is_file (slice_index_or self.now.nodes n stray).content }
     {
-        match row_of(self.base, self.made.as_slice(), n) {
-            Some(row) => row.content.is_file(),
+        match inode_of(self.base, self.made.as_slice(), n) {
+            Some(inode) => inode.content.is_file(),
             None => self.base.is_file(n),
         }
     }
@@ -92,8 +92,8 @@ impl<'a> Grown<'a> {
         requires { n < length self.now.nodes }
         ensures { result ≡ is_link (slice_index_or self.now.nodes n stray).content }
     {
-        match row_of(self.base, self.made.as_slice(), n) {
-            Some(row) => row.content.is_link(),
+        match inode_of(self.base, self.made.as_slice(), n) {
+            Some(inode) => inode.content.is_link(),
             None => self.base.is_link(n),
         }
     }
@@ -118,8 +118,8 @@ impl<'a> Grown<'a> {
         requires { n < length self.now.nodes }
         ensures { result ≡ is_gone (slice_index_or self.now.nodes n stray).content }
     {
-        match row_of(self.base, self.made.as_slice(), n) {
-            Some(row) => row.content.is_gone(),
+        match inode_of(self.base, self.made.as_slice(), n) {
+            Some(inode) => inode.content.is_gone(),
             None => self.base.is_gone(n),
         }
     }
@@ -130,8 +130,8 @@ impl<'a> Grown<'a> {
         requires { n < length self.now.nodes }
         ensures { result ≡ (slice_index_or self.now.nodes n stray).bits }
     {
-        match row_of(self.base, self.made.as_slice(), n) {
-            Some(row) => row.bits,
+        match inode_of(self.base, self.made.as_slice(), n) {
+            Some(inode) => inode.bits,
             None => self.base.bits(n),
         }
     }
@@ -142,8 +142,8 @@ impl<'a> Grown<'a> {
         requires { n < length self.now.nodes }
         ensures { result.now ≡ bytes_of (slice_index_or self.now.nodes n stray).content }
     {
-        match row_of(self.base, self.made.as_slice(), n) {
-            Some(row) => row.content.bytes(),
+        match inode_of(self.base, self.made.as_slice(), n) {
+            Some(inode) => inode.content.bytes(),
             None => self.base.bytes(n),
         }
     }
@@ -153,8 +153,8 @@ impl<'a> Grown<'a> {
         requires { n < length self.now.nodes }
         ensures { result.now ≡ text_of (slice_index_or self.now.nodes n stray).content }
     {
-        match row_of(self.base, self.made.as_slice(), n) {
-            Some(row) => row.content.text(),
+        match inode_of(self.base, self.made.as_slice(), n) {
+            Some(inode) => inode.content.text(),
             None => self.base.text(n),
         }
     }
@@ -165,8 +165,8 @@ impl<'a> Grown<'a> {
         requires { n < length self.now.nodes }
         ensures { result ≡ metadata_from n (slice_index_or self.now.nodes n stray) }
     {
-        match row_of(self.base, self.made.as_slice(), n) {
-            Some(row) => row.metadata(n),
+        match inode_of(self.base, self.made.as_slice(), n) {
+            Some(inode) => inode.metadata(n),
             None => self.base.metadata(n),
         }
     }
@@ -180,20 +180,20 @@ impl<'a> Grown<'a> {
     }
 
     /// One node more, with the next number.
-    pub fn push(&mut self, row: Inode)
+    pub fn push(&mut self, inode: Inode)
         requires room { 0 < self.old.room }
         requires number { length self.old.nodes < 2 ^ 64 - 1 }
-        ensures { self.new.nodes ≡ self.old.nodes ++ stored_node row ∷ [] }
+        ensures { self.new.nodes ≡ self.old.nodes ++ stored_node inode ∷ [] }
     {
-        self.made.push_reserved(row);
+        self.made.push_reserved(inode);
     }
 }
 
 /// The row of the node of a number, where it was made.
 #[inline(always)]
-fn row_of<'a>(base: &MemStore, made: &'a [Inode], n: u64) -> Option<&'a Inode>
+fn inode_of<'a>(base: &MemStore, made: &'a [Inode], n: u64) -> Option<&'a Inode>
     requires { n < length (grown base.now.tree.nodes made.now) }
-    ensures made { IfSome result (λ row. stored_node row.now ≡ slice_index_or (grown base.now.tree.nodes made.now) n stray) }
+    ensures made { IfSome result (λ inode. stored_node inode.now ≡ slice_index_or (grown base.now.tree.nodes made.now) n stray) }
     ensures within { IfNone result (n < length base.now.tree.nodes) }
     ensures same { IfNone result
         (node_at base.now.tree n ≡ slice_index_or (grown base.now.tree.nodes made.now) n stray) }

@@ -285,18 +285,18 @@ impl<'a> OverNodes<'a> {
     }
 
     /// One node more, which is worked on and touched.
-    pub fn push(&mut self, row: Inode)
+    pub fn push(&mut self, inode: Inode)
         requires { self.old.has_room ≡ true }
-        ensures nodes { self.new.nodes ≡ self.old.nodes ++ stored_node row ∷ [] }
+        ensures nodes { self.new.nodes ≡ self.old.nodes ++ stored_node inode ∷ [] }
         ensures worked { self.new.worked ≡ insert self.old.worked (length self.old.nodes) }
         ensures touched { self.new.touched ≡ insert self.old.touched (length self.old.nodes) }
         ensures held { contains self.new.held (length self.old.nodes) ≡ true }
         ensures grows { (m : ℕ) → contains self.old.held m ≡ true → contains self.new.held m ≡ true }
     {
         let n = self.below.count();
-        let gone = row.content.is_gone();
-        self.seats.begin(n, self.round, row.metadata(n), gone);
-        self.below.push(row);
+        let gone = inode.content.is_gone();
+        self.seats.begin(n, self.round, inode.metadata(n), gone);
+        self.below.push(inode);
     }
 
     /// Puts a piece of bytes into a file from an offset on, with zeros in a gap before it. What is no file stays. Where

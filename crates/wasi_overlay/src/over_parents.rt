@@ -8,7 +8,7 @@ ghost use Rattle.wasi_tree.specs.ParentOf.{is_on_way, without_parent};
 use std::alloc::{AllocError, Global};
 use std::marker::Model;
 use wasi_paged_map::Pages;
-use wasi_tree::{MemStore, NodeStore, TellsParents, is_below};
+use wasi_tree::{MemStore, NodeStore, ParentLookup, is_below};
 
 /// In which directory each node of an overlay stands. The tree below stays as it is and tells it of its own nodes; what
 /// changed stands apart. Nodes that are made have the numbers behind those of the tree below.
@@ -142,8 +142,8 @@ impl<'a> OverParents<'a> {
 }
 
 #[tactic(auto, using(crate::proofs::HeldLemmas::held_rules))]
-impl<'a> TellsParents for OverParents<'a> {
-    ghost told = { λ p. p.parents };
+impl<'a> ParentLookup for OverParents<'a> {
+    ghost known_parents = { λ p. p.parents };
 
     fn count(&self) -> u64 {
         self.count

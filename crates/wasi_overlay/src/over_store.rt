@@ -9,7 +9,7 @@ ghost use Rattle.std.specs.FinMap as maps;
 ghost use Rattle.std.specs.FinSet.{contains, empty, from_list};
 ghost use Rattle.wasi_paths.specs.Name.{name_bytes};
 ghost use Rattle.wasi_host.specs.Tree.{next_of, node_at, child, names_of, is_directory};
-ghost use Rattle.wasi_tree.specs.Given.{given, given_content, given_of, content_given, pair_of};
+ghost use Rattle.wasi_tree.specs.NodeData.{node_data, content_data, data_of_node, data_of_content, pair_of};
 
 use crate::over_nodes::OverNodes;
 use crate::over_parents::OverParents;
@@ -35,19 +35,19 @@ pub struct OverStore<'a> {
 }
 
 impl<'a> Model for OverStore<'a> {
-    ghost use Rattle.wasi_overlay.specs.OverStore.{IsOver, Overlaid, overlaid_code, parts_of, tree_over};
+    ghost use Rattle.wasi_overlay.specs.OverStore.{IsOver, Overlaid, overlaid_code, overlay_parts, tree_over};
 
     ghost Value = { Overlaid };
 
     ghost coded = { overlaid_code };
 
     ghost view = { λ a. record {
-      tree = tree_over (parts_of a.nodes a.names a.limits);
+      tree = tree_over (overlay_parts a.nodes a.names a.limits);
       touched = a.nodes.touched;
       held = a.nodes.held;
     } };
 
-    ghost invariant = { λ a. IsOver (parts_of a.nodes a.names a.limits) a.parents.parents };
+    ghost invariant = { λ a. IsOver (overlay_parts a.nodes a.names a.limits) a.parents.parents };
 }
 
 #[tactic(auto, using(wasi_tree::proofs::StoreLemmas::child_is, wasi_tree::proofs::StoreLemmas::child_dot, wasi_tree::proofs::StoreLemmas::no_child))]
@@ -101,7 +101,7 @@ impl<'a> OverStore<'a> {
     /// The node of a number as a list gives it, in memory of its own.
     pub fn new_node(&self, alloc: Global, n: u64) -> Result<NewNode, AllocError>
         requires { n < next_of self.now.tree }
-        ensures { IfOk result (λ node. given node ≡ given_of (node_at self.now.tree n)) }
+        ensures { IfOk result (λ node. node_data node ≡ data_of_node (node_at self.now.tree n)) }
     {
         let Metadata {
             atime,
@@ -121,7 +121,7 @@ impl<'a> OverStore<'a> {
     /// What a node is, as a list gives it.
     fn new_content(&self, alloc: Global, n: u64) -> Result<NewContent, AllocError>
         requires { n < next_of self.now.tree }
-        ensures { IfOk result (λ content. given_content content ≡ content_given (node_at self.now.tree n).content) }
+        ensures { IfOk result (λ content. content_data content ≡ data_of_content (node_at self.now.tree n).content) }
     {
         if self.is_directory(n) {
             return Ok(NewContent::Dir(self.new_entries(alloc, n)?));
@@ -266,13 +266,13 @@ impl<'a> NodeStore for OverStore<'a> {
     }
 
     /// All room is taken first, so that nothing has changed where memory is wanted.
-    fn make_node(&mut self, directory: u64, name: Name<'_>, row: Inode) -> Result<u64, AllocError> {
+    fn make_node(&mut self, directory: u64, name: Name<'_>, inode: Inode) -> Result<u64, AllocError> {
         let node = self.nodes.count();
         self.nodes.reserve()?;
         self.parents.reserve()?;
         self.names.put(directory, name.as_str(), node)?;
         self.nodes.work(directory);
-        self.nodes.push(row);
+        self.nodes.push(inode);
         self.parents.push(directory);
         Ok(node)
     }

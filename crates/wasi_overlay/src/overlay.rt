@@ -7,8 +7,8 @@ ghost use Rattle.wasi_host.specs.Tree.{next_of, node_at, is_directory};
 ghost use Rattle.wasi_host.specs.HostLaws.{never_fails};
 ghost use Rattle.wasi_host.specs.declared.injected_fault.InjectedFault.TheVariants.{Passes};
 ghost use Rattle.wasi_overlay.specs.Overlay.{IsFreshOn};
-ghost use Rattle.wasi_tree.specs.Given.{given, given_of};
-ghost use Rattle.wasi_tree.specs.MemState.{live_of, held_in, world_of};
+ghost use Rattle.wasi_tree.specs.NodeData.{node_data, data_of_node};
+ghost use Rattle.wasi_tree.specs.MemState.{live_of, held_in, model_of};
 
 use crate::over_store::OverStore;
 use std::alloc::{AllocError, Global};
@@ -79,7 +79,7 @@ impl<'a> Overlay<'a> {
     /// memory, as of all that follows here.
     pub fn new_node(&self, alloc: Global, number: u64) -> Result<NewNode, AllocError>
         requires { number < next_of self.now.tree }
-        ensures { IfOk result (λ node. given node ≡ given_of (node_at self.now.tree number)) }
+        ensures { IfOk result (λ node. node_data node ≡ data_of_node (node_at self.now.tree number)) }
     {
         self.host.store().new_node(alloc, number)
     }
@@ -112,7 +112,7 @@ impl<'a> Overlay<'a> {
 
     /// The tree as it is, as a list of nodes in memory of its own. The entries of each directory stand in byte order.
     pub fn nodes(&self, alloc: Global) -> Result<Vec<NewNode>, AllocError>
-        ensures nodes { IfOk result (λ nodes. map given nodes.items ≡ map given_of self.now.tree.nodes) }
+        ensures nodes { IfOk result (λ nodes. map node_data nodes.items ≡ map data_of_node self.now.tree.nodes) }
     {
         self.host.nodes(alloc)
     }
@@ -125,21 +125,21 @@ impl<'a> Host for Overlay<'a> {
 
     ghost lookups = { λ m. m.lookups };
 
-    ghost told = { true };
+    ghost modelled = { true };
 
-    ghost world = { world_of };
+    ghost model = { model_of };
 
-    ghost tells_fails = { true };
+    ghost fails_modelled = { true };
 
     ghost fails = { λ _ _. Passes };
 
-    ghost tells_found = { true };
+    ghost found_modelled = { true };
 
     ghost others = { λ _ _ t. t };
 
     ghost found = { λ m. m.tree };
 
-    ghost left = { world_of };
+    ghost left = { model_of };
 
     fn open_at(
         &mut self,

@@ -2,10 +2,10 @@
 use Rattle.std.proofs.Common.{ℕ, List, inl, inr, sym, subst, Result}
 use Rattle.wasi_guest.specs.declared.answer.Answer.{Answer}
 use Rattle.wasi_guest.specs.declared.answer.Value.{Value}
-use Rattle.wasi_host.specs.HostLaws.{World, FaultCount}
+use Rattle.wasi_host.specs.HostLaws.{HostModel, FaultCount}
 use Rattle.wasi_host.specs.Tree.{Nodes}
 use Rattle.wasi_p1.specs.RunQuotas.{KeepsToQuotas, KeptToQuotas}
-use Rattle.wasi_p1_model.specs.CallTransition.{Turns, in_world}
+use Rattle.wasi_p1_model.specs.CallTransition.{Turns, in_model}
 use Rattle.wasi_p1_types.specs.Front.{FueledCall}
 use Rattle.wasi_p1_types.specs.Guest.{Guest, State}
 use Rattle.wasi_p1_model.specs.QuotaLaws.{WritesAsOpened}
@@ -16,10 +16,10 @@ use Rattle.wasi_p1_model.proofs.QuotaRuns.{run_counts, run_opened, run_within}
 use Rattle.wasi_p1_model.proofs.QuotaTurns.{answered_spends}
 
 -- a call leaves files that are written as they were opened
-pub turn_writes : {rose : Type 0} {w v : World} {g g' : Guest} {call : FueledCall} {r : Result Value P1Error}
+pub turn_writes : {rose : Type 0} {w v : HostModel} {g g' : Guest} {call : FueledCall} {r : Result Value P1Error}
     → Turns rose w v g g' call r → WritesAsOpened g → WritesAsOpened g'
 turn_writes {rose} {w} {v} {g} {g'} {call} {r} takes all = elim (turn_moves rose _ call r takes.turn) [
-  | inl given ↦ (answered_spends (in_world w g) call given.1).opened all
+  | inl given ↦ (answered_spends (in_model w g) call given.1).opened all
   | inr still ↦ subst WritesAsOpened (sym still.guest) all
 ]
 

@@ -65,18 +65,18 @@ pub fn call<H: Host>(
 ) -> Result<Value, P1Error>
     ensures host_laws { KeepsHostLaws H.Host context.old context.new memory.old call result }
     ensures spec { MeetsSpec H.Host context.old context.new memory.old memory.new call result }
-    ensures complete { IsTrue H.told → (Rose (H.faults context.old.host) (H.faults context.new.host) → ⊥)
-        → IsValidCall (state_of H.world context.old memory.old) (with_fuel context.old.fuel call)
+    ensures complete { IsTrue H.modelled → (Rose (H.faults context.old.host) (H.faults context.new.host) → ⊥)
+        → IsValidCall (state_of H.model context.old memory.old) (with_fuel context.old.fuel call)
         → IsAnswered call result }
-    ensures errnos { IsTrue H.told → IfSome (answer_of result) MayCome }
-    ensures unchanged { LeavesAll H.told H.world context.old context.new memory.old memory.new result }
-    ensures adds { IsTrue H.told → AppendsAtEnd (guest_of H.world context.old memory.old)
-        → NamesUnder AppendOnly (guest_of H.world context.old memory.old) call
-        → Adds (H.world context.old.host).tree (H.world context.new.host).tree }
-    ensures appends { IsTrue H.told → AppendsAtEnd (guest_of H.world context.old memory.old)
-        → AppendsAtEnd (guest_of H.world context.new memory.new) }
-    ensures writes { IsTrue H.told → WritesAsOpened (guest_of H.world context.old memory.old)
-        → WritesAsOpened (guest_of H.world context.new memory.new) }
+    ensures errnos { IsTrue H.modelled → IfSome (answer_of result) MayCome }
+    ensures unchanged { LeavesAll H.modelled H.model context.old context.new memory.old memory.new result }
+    ensures adds { IsTrue H.modelled → AppendsAtEnd (guest_of H.model context.old memory.old)
+        → NamesUnder AppendOnly (guest_of H.model context.old memory.old) call
+        → Adds (H.model context.old.host).tree (H.model context.new.host).tree }
+    ensures appends { IsTrue H.modelled → AppendsAtEnd (guest_of H.model context.old memory.old)
+        → AppendsAtEnd (guest_of H.model context.new memory.new) }
+    ensures writes { IsTrue H.modelled → WritesAsOpened (guest_of H.model context.old memory.old)
+        → WritesAsOpened (guest_of H.model context.new memory.new) }
 {
     by_name(context, memory, call)
 }
@@ -275,7 +275,7 @@ fn call_with<H: Host>(
     ensures host_laws { KeepsHostLaws H.Host context.old context.new memory.old one result }
     ensures slots { SlotsOfCall context.old.slots context.new.slots memory.old one }
     ensures wants { result ≡ Err Memory → IsTrue (may_run_out_of_memory one) }
-    ensures spec { IsTrue H.told → Transitions H.world (Rose (H.faults context.old.host) (H.faults context.new.host))
+    ensures spec { IsTrue H.modelled → Transitions H.model (Rose (H.faults context.old.host) (H.faults context.new.host))
         context.old context.new memory.old memory.new (with_fuel fuel one) result }
     ensures does { DoesCall H.Host fuel context.old context.new memory.old memory.new one result }
 {
@@ -310,38 +310,38 @@ pub fn run_calls<H: Host>(
     ensures answered { IfErr result (λ e. answered_in e ≤ length calls.now.items) }
     ensures wanted { IfErr result (λ e. OutOfMemoryAt context.old context.new memory.old memory.new calls.now.items
         (answered_in e)) }
-    ensures errnos { IsTrue H.told → IfOk result (λ a. All MayCome a.answers) }
+    ensures errnos { IsTrue H.modelled → IfOk result (λ a. All MayCome a.answers) }
     ensures ios { IfOk result (λ a. Allows (H.faults context.old.host) (H.faults context.new.host) (ios a.answers)) }
     ensures handles { OthersStay H.live context.old context.new }
     ensures slots { SlotsOfRun H.Host fuel context.old memory.old calls.now.items context.new.slots }
-    ensures lineage { RunTraced context.old.slots context.new.slots
+    ensures provenance { RunTraced context.old.slots context.new.slots
         (H.lookups context.old.host) (H.lookups context.new.host) }
-    ensures run { IsTrue H.told → IfOk result (λ a. RefinesTrace (H.faults context.old.host) (H.faults context.new.host)
-        (state_of H.world context.old memory.old) (map (with_fuel fuel) calls.now.items) a.answers
-        (state_of H.world context.new memory.new) (H.world context.new.host).touched) }
-    ensures memory { IsTrue H.told → IfErr result (λ e. StoodAt (H.faults context.old.host) (H.faults context.new.host)
-        (state_of H.world context.old memory.old) (map (with_fuel fuel) calls.now.items) (answered_in e)
-        (state_of H.world context.new memory.new) (H.world context.new.host).touched) }
-    ensures quotas { IsTrue H.told → WritesAsOpened (guest_of H.world context.old memory.old)
-        → IfOk result (λ a. KeepsToQuotas (state_of H.world context.old memory.old)
-        (map (with_fuel fuel) calls.now.items) a.answers (state_of H.world context.new memory.new)) }
-    ensures quotas_so_far { IsTrue H.told → WritesAsOpened (guest_of H.world context.old memory.old)
-        → IfErr result (λ e. KeptToQuotas (state_of H.world context.old memory.old)
-        (map (with_fuel fuel) calls.now.items) (answered_in e) (state_of H.world context.new memory.new)) }
-    ensures touched { IsTrue H.told
-        → StaysTouched (H.world context.old.host).touched (H.world context.new.host).touched }
-    ensures confined { IsTrue H.told → (start : State)
-        → Confined start (state_of H.world context.old memory.old) (H.world context.old.host).touched
-        → Confined start (state_of H.world context.new memory.new) (H.world context.new.host).touched }
-    ensures valid { IsTrue H.told → IsValidState (state_of H.world context.old memory.old)
-        → IsValidState (state_of H.world context.new memory.new) }
+    ensures run { IsTrue H.modelled → IfOk result (λ a. RefinesTrace (H.faults context.old.host) (H.faults context.new.host)
+        (state_of H.model context.old memory.old) (map (with_fuel fuel) calls.now.items) a.answers
+        (state_of H.model context.new memory.new) (H.model context.new.host).touched) }
+    ensures memory { IsTrue H.modelled → IfErr result (λ e. StoodAt (H.faults context.old.host) (H.faults context.new.host)
+        (state_of H.model context.old memory.old) (map (with_fuel fuel) calls.now.items) (answered_in e)
+        (state_of H.model context.new memory.new) (H.model context.new.host).touched) }
+    ensures quotas { IsTrue H.modelled → WritesAsOpened (guest_of H.model context.old memory.old)
+        → IfOk result (λ a. KeepsToQuotas (state_of H.model context.old memory.old)
+        (map (with_fuel fuel) calls.now.items) a.answers (state_of H.model context.new memory.new)) }
+    ensures quotas_so_far { IsTrue H.modelled → WritesAsOpened (guest_of H.model context.old memory.old)
+        → IfErr result (λ e. KeptToQuotas (state_of H.model context.old memory.old)
+        (map (with_fuel fuel) calls.now.items) (answered_in e) (state_of H.model context.new memory.new)) }
+    ensures touched { IsTrue H.modelled
+        → StaysTouched (H.model context.old.host).touched (H.model context.new.host).touched }
+    ensures confined { IsTrue H.modelled → (start : State)
+        → Confined start (state_of H.model context.old memory.old) (H.model context.old.host).touched
+        → Confined start (state_of H.model context.new memory.new) (H.model context.new.host).touched }
+    ensures valid { IsTrue H.modelled → IsValidState (state_of H.model context.old memory.old)
+        → IsValidState (state_of H.model context.new memory.new) }
     ensures in_turn { IfOk result (λ a. DoCalls H.Host fuel context.old memory.old calls.now.items a.answers
         context.new memory.new) }
     ensures until { IfErr result (λ e. DoCallsUntil H.Host fuel context.old memory.old calls.now.items (answered_in e)
         context.new memory.new) }
-    ensures agree { IsTrue H.told → (Rose (H.faults context.old.host) (H.faults context.new.host) → ⊥)
-        → IfOk result (λ a. Noninterferes (state_of H.world context.old memory.old)
-        (map (with_fuel fuel) calls.now.items) a.answers (state_of H.world context.new memory.new)) }
+    ensures agree { IsTrue H.modelled → (Rose (H.faults context.old.host) (H.faults context.new.host) → ⊥)
+        → IfOk result (λ a. Noninterferes (state_of H.model context.old memory.old)
+        (map (with_fuel fuel) calls.now.items) a.answers (state_of H.model context.new memory.new)) }
 {
     let Ok(mut answers) = Answers::with_room(alloc, calls.len()) else {
         return Err(RunError::Memory { answered: 0 });

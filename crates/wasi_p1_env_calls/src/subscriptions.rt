@@ -6,7 +6,7 @@ ghost use Rattle.std.specs.Option.{option_to_list};
 ghost use Rattle.wasi_guest.specs.Event.{event_bytes};
 ghost use Rattle.wasi_guest.specs.Range.{IsInMemory, with_bytes};
 ghost use Rattle.wasi_host.specs.HostLaws.{Rose};
-ghost use Rattle.wasi_p1_types.specs.CallParts.{IsFromHost, IsReplied, Makes, is_failure, source_of, sink_of, OfSource};
+ghost use Rattle.wasi_p1_types.specs.CallParts.{IsFromHost, IsReplied, Makes, is_failure, read_target_of, write_target_of, OfReadTarget};
 ghost use Rattle.wasi_p1_model.specs.CallTransition.{Causes};
 ghost use Rattle.wasi_p1_types.specs.Guest.{guest_slots};
 ghost use Rattle.wasi_p1_model.specs.Owners.{handles, Owned};
@@ -22,8 +22,8 @@ use wasi_guest::{
 };
 use wasi_host::Host;
 use wasi_p1_state::descriptors::Descriptors;
-use wasi_p1_state::lookups::{sink_at, source_at};
-use wasi_p1_types::{Awaited, Clocks, GuestEnv, INVALID, Judged, P1Error, Sink, Source, Waited};
+use wasi_p1_state::lookups::{write_target_at, read_target_at};
+use wasi_p1_types::{Awaited, Clocks, GuestEnv, INVALID, Judged, P1Error, WriteTarget, ReadTarget, Waited};
 
 /// How many bytes a subscription has in memory.
 const SUBSCRIPTION: u32 = Subscription::SIZE as u32;
@@ -31,7 +31,7 @@ const SUBSCRIPTION: u32 = Subscription::SIZE as u32;
 /// Inval of a poll of nothing.
 #[tactic(auto, unfolding(wasi_p1_types::specs::Polling::some_asked))]
 pub fn some_asked(count: u32) -> Result<(), P1Error>
-    ensures row { result ≡ some_asked count }
+    ensures specified { result ≡ some_asked count }
     ensures refusal { IfErr result (λ e. is_failure e ≡ false) }
 {
     if count == 0 {
@@ -48,7 +48,7 @@ pub fn lists_within(
     events: u32,
     count: u32,
 ) -> Result<(), P1Error>
-    ensures row { result ≡ lists_within memory.now subscriptions events count }
+    ensures specified { result ≡ lists_within memory.now subscriptions events count }
     ensures refusal { IfErr result (λ e. is_failure e ≡ false) }
     ensures inside { OnOk result (IsInMemory memory.now events (32 * count)) }
 {
@@ -63,15 +63,15 @@ pub fn lists_within(
 }
 
 /// What is waited for of what is read by a number.
-fn to_read<H: Host>(host: &H, source: Source) -> Awaited
-    requires live { OfSource (λ file. contains (H.live host.now) file.file.file ≡ true) source }
+fn to_read<H: Host>(host: &H, source: ReadTarget) -> Awaited
+    requires live { OfReadTarget (λ file. contains (H.live host.now) file.file.file ≡ true) source }
     ensures live { OfReading (λ file. contains (H.live host.now) file ≡ true) result }
-    ensures row { awaited_by (H.world host.now).held result
-        ≡ waiting_to_read (source_of (H.world host.now).held source) }
+    ensures specified { awaited_by (H.model host.now).held result
+        ≡ waiting_to_read (read_target_of (H.model host.now).held source) }
 {
     match source {
-        Source::Input => Awaited::Input,
-        Source::File(slot) => Awaited::FileToRead {
+        ReadTarget::Input => Awaited::Input,
+        ReadTarget::File(slot) => Awaited::FileToRead {
             file: slot.file.file,
             position: slot.position,
         },
@@ -79,15 +79,15 @@ fn to_read<H: Host>(host: &H, source: Source) -> Awaited
 }
 
 /// What is waited for of what is written by a number: Perm of a file under read-only permissions.
-fn to_write<H: Host>(host: &H, sink: Sink) -> Result<Awaited, P1Error>
+fn to_write<H: Host>(host: &H, sink: WriteTarget) -> Result<Awaited, P1Error>
     ensures live { IfOk result (OfReading (λ file. contains (H.live host.now) file ≡ true)) }
     ensures refusal { IfErr result (λ e. is_failure e ≡ false) }
-    ensures row { result_map_both (awaited_by (H.world host.now).held) (λ e. e) result
-        ≡ waiting_to_write (sink_of (H.world host.now).held sink) }
+    ensures specified { result_map_both (awaited_by (H.model host.now).held) (λ e. e) result
+        ≡ waiting_to_write (write_target_of (H.model host.now).held sink) }
 {
     match sink {
-        Sink::Output(_) => Ok(Awaited::Output),
-        Sink::File(slot) => {
+        WriteTarget::Output(_) => Ok(Awaited::Output),
+        WriteTarget::File(slot) => {
             if slot.file.perms.write_not_permitted() {
                 return Err(P1Error::Errno(Errno::Perm));
             }
@@ -108,8 +108,8 @@ fn waiting_for<H: Host>(
     requires owned { Owned (H.live host.now) (handles descriptors.now.slots) }
     ensures live { IfOk result (OfReading (λ file. contains (H.live host.now) file ≡ true)) }
     ensures refusal { IfErr result (λ e. is_failure e ≡ false) }
-    ensures row { result_map_both (awaited_by (H.world host.now).held) (λ e. e) result
-        ≡ waiting_for holdings.now (guest_slots (H.world host.now).held descriptors.now.slots) what }
+    ensures specified { result_map_both (awaited_by (H.model host.now).held) (λ e. e) result
+        ≡ waiting_for holdings.now (guest_slots (H.model host.now).held descriptors.now.slots) what }
 {
     match what {
         SubscriptionKind::Clock {
@@ -122,10 +122,10 @@ fn waiting_for<H: Host>(
             Ok(Awaited::Clock { end })
         }
         SubscriptionKind::FdRead { fd } => {
-            let source = source_at(host, descriptors, fd)?;
+            let source = read_target_at(host, descriptors, fd)?;
             Ok(to_read(host, source))
         }
-        SubscriptionKind::FdWrite { fd } => to_write(host, sink_at(host, descriptors, fd)?),
+        SubscriptionKind::FdWrite { fd } => to_write(host, write_target_at(host, descriptors, fd)?),
     }
 }
 
@@ -142,8 +142,8 @@ fn waited_at<H: Host>(
     ensures live { IfOk result (λ w. OfReading (λ file. contains (H.live host.now) file ≡ true) w.what) }
     ensures refusal { IfErr result (λ e. is_failure e ≡ false) }
     ensures next { OnOk result (at + 48 < 2 ^ 32) }
-    ensures row { result_map_both (waited_by (H.world host.now).held) (λ e. e) result
-        ≡ waited_at holdings.now (guest_slots (H.world host.now).held descriptors.now.slots) memory.now at }
+    ensures specified { result_map_both (waited_by (H.model host.now).held) (λ e. e) result
+        ≡ waited_at holdings.now (guest_slots (H.model host.now).held descriptors.now.slots) memory.now at }
 {
     let asked = subscription_in(memory, at)?;
     let what = waiting_for(host, descriptors, holdings, asked.what)?;
@@ -165,7 +165,7 @@ pub fn judged_at<H: Host>(
 ) -> Result<Judged, P1Error>
     requires owned { Owned (H.live host.now) (handles descriptors.now.slots) }
     ensures refusal { IfErr result (λ e. is_failure e ≡ false) }
-    ensures row { result ≡ judged_in holdings.now (guest_slots (H.world host.now).held descriptors.now.slots)
+    ensures specified { result ≡ judged_in holdings.now (guest_slots (H.model host.now).held descriptors.now.slots)
         memory.now subscriptions count }
     ensures few { IfOk result (λ judged. count + judged.files < 2 ^ 32) }
 {
@@ -202,11 +202,11 @@ pub fn all_waited<H: Host>(
     ensures live { IfOk result (λ all. All (λ w. OfReading (λ file. contains (H.live host.now) file ≡ true) w.what)
         all.items) }
     ensures count { IfOk result (λ all. length all.items ≡ count) }
-    ensures row { IfOk result (λ all. all_waited holdings.now
-        (guest_slots (H.world host.now).held descriptors.now.slots) memory.now subscriptions count
-        ≡ Ok (map (waited_by (H.world host.now).held) all.items)) }
+    ensures specified { IfOk result (λ all. all_waited holdings.now
+        (guest_slots (H.model host.now).held descriptors.now.slots) memory.now subscriptions count
+        ≡ Ok (map (waited_by (H.model host.now).held) all.items)) }
     ensures wants { IfErr result (λ e. (e ≡ Memory) ⊎ (Err e ≡ all_waited holdings.now
-        (guest_slots (H.world host.now).held descriptors.now.slots) memory.now subscriptions count)) }
+        (guest_slots (H.model host.now).held descriptors.now.slots) memory.now subscriptions count)) }
 {
     let mut all = Vec::with_capacity(alloc, count as usize)?;
     for i in 0..count {
@@ -224,8 +224,8 @@ fn size_of<H: Host>(host: &mut H, what: Awaited) -> Result<Option<u64>, P1Error>
     ensures live { H.live host.new ≡ H.live host.old }
     ensures logged { H.lookups host.new ≡ H.lookups host.old }
     ensures from { IfErr result IsFromHost }
-    ensures told { IsTrue H.told → Makes (Rose (H.faults host.old) (H.faults host.new)) (H.live host.old)
-        (H.world host.old) (H.world host.new) (Sizes (nodes_in (awaited_by (H.world host.old).held what))) give
+    ensures modelled { IsTrue H.modelled → Makes (Rose (H.faults host.old) (H.faults host.new)) (H.live host.old)
+        (H.model host.old) (H.model host.new) (Sizes (nodes_in (awaited_by (H.model host.old).held what))) give
         (result_map_both option_to_list (λ e. e) result) }
 {
     match what {
@@ -262,11 +262,11 @@ pub fn sizes_of<H: Host>(
     ensures logged { H.lookups host.new ≡ H.lookups host.old }
 
     // The row, over every host and over one that tells its world.
-    ensures front { IsReplied (Sizes (nodes_read (map (waited_by (H.world host.old).held) waited.now))) give
+    ensures front { IsReplied (Sizes (nodes_read (map (waited_by (H.model host.old).held) waited.now))) give
         (result_map_both (λ sizes. sizes.items) (λ e. e) result) }
-    ensures told { IsTrue H.told → Makes (Rose (H.faults host.old) (H.faults host.new)) (H.live host.old)
-        (H.world host.old) (H.world host.new)
-        (Sizes (nodes_read (map (waited_by (H.world host.old).held) waited.now))) give
+    ensures modelled { IsTrue H.modelled → Makes (Rose (H.faults host.old) (H.faults host.new)) (H.live host.old)
+        (H.model host.old) (H.model host.new)
+        (Sizes (nodes_read (map (waited_by (H.model host.old).held) waited.now))) give
         (result_map_both (λ sizes. sizes.items) (λ e. e) result) }
 {
     let mut sizes = Vec::with_capacity(alloc, waited.len())?;

@@ -14,7 +14,7 @@ use wasi_p1_types::{FileModes, INVALID, P1Error};
 /// Inval of a flag of integrity.
 #[tactic(auto, unfolding(wasi_p1_types::specs::Files::not_synchronized))]
 pub fn not_synchronized(fdflags: FdFlags) -> Result<(), P1Error>
-    ensures row { result ≡ not_synchronized (fdflag_bits fdflags) }
+    ensures specified { result ≡ not_synchronized (fdflag_bits fdflags) }
     ensures refusal { IfErr result (λ e. is_failure e ≡ false) }
 {
     if fdflags.contains(FdFlags::DSYNC)
@@ -30,7 +30,7 @@ pub fn not_synchronized(fdflags: FdFlags) -> Result<(), P1Error>
 /// wouldn't go behind its last byte.
 #[tactic(auto, unfolding(wasi_p1_types::specs::Files::keeps_append))]
 pub fn keeps_append(perms: FsPerms, modes: FileModes) -> Result<(), P1Error>
-    ensures row { result ≡ keeps_append perms modes }
+    ensures specified { result ≡ keeps_append perms modes }
     ensures refusal { IfErr result (λ e. is_failure e ≡ false) }
 {
     if perms.is_append_only() && !modes.append {

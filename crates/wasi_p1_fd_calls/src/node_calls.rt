@@ -32,7 +32,7 @@ impl<H: Host> NodeCall<H> for SetTimesOf {
     ghost shown = { λ unit. unit };
 
     ghost Did = { λ call old new d answer. IfErr answer NotMemory × Performs H.Host old new (may_do (perms_of d) Alter)
-        (sets (H.world old).tree ((H.world old).held (handle_of d)).node call.times.atime call.times.mtime)
+        (sets (H.model old).tree ((H.model old).held (handle_of d)).node call.times.atime call.times.mtime)
         (λ unit. unit) answer };
 
     ghost Fits = { λ call. AreSinceEpoch call.times };
@@ -56,7 +56,7 @@ impl<H: Host> NodeCall<H> for StatOf {
     ghost shown = { stat_named };
 
     ghost Did = { λ _ old new d answer. IfErr answer NotMemory × IfOk answer IsStat × Performs H.Host old new None
-        (meant_as descriptor_stat (stats (H.world old).tree ((H.world old).held (handle_of d)).node))
+        (meant_as descriptor_stat (stats (H.model old).tree ((H.model old).held (handle_of d)).node))
         (λ stat. stat) answer };
 
     fn made(
@@ -80,7 +80,7 @@ impl<H: Host> NodeCall<H> for MetadataHashOf {
     ghost shown = { hash_named };
 
     ghost Did = { λ _ old new d answer. IfErr answer NotMemory × IfOk answer IsHash × Performs H.Host old new None
-        (meant_as metadata_hash (stats (H.world old).tree ((H.world old).held (handle_of d)).node))
+        (meant_as metadata_hash (stats (H.model old).tree ((H.model old).held (handle_of d)).node))
         (λ hash. hash) answer };
 
     fn made(
@@ -104,7 +104,7 @@ impl<H: Host> NodeCall<H> for FlagsOf {
     ghost shown = { descriptor_flags_told };
 
     ghost Did = { λ _ old new d answer. IfErr answer NotMemory × IfOk answer (IsFlags d) × Performs H.Host old new None
-        (tells_flags (H.world old).tree ((H.world old).held (handle_of d)).node d) descriptor_flag_bits answer };
+        (tells_flags (H.model old).tree ((H.model old).held (handle_of d)).node d) descriptor_flag_bits answer };
 
     fn made(
         self,
@@ -127,7 +127,7 @@ impl<H: Host> NodeCall<H> for TypeOf {
     ghost shown = { type_named };
 
     ghost Did = { λ _ old new d answer. IfErr answer NotMemory × AnswersKnown d answer old new
-        × (IsTrue H.told → IsTyped (H.live old) (H.world old) (H.world new) d answer) };
+        × (IsTrue H.modelled → IsTyped (H.live old) (H.model old) (H.model new) d answer) };
 
     fn made(
         self,

@@ -4,7 +4,7 @@ ghost use Rattle.std.specs.FinSet.{contains};
 ghost use Rattle.std.specs.String.{string_bytes};
 ghost use Rattle.wasi_guest.specs.Range.{with_bytes, IsInMemory};
 ghost use Rattle.wasi_host.specs.Answer.{entry_of};
-ghost use Rattle.wasi_host.specs.Lineage.{HasProvenance, Only, Nothing};
+ghost use Rattle.wasi_host.specs.Provenance.{HasProvenance, Only, Nothing};
 ghost use Rattle.wasi_host.specs.HostLaws.{HasCause};
 ghost use Rattle.wasi_host.specs.declared.file_type.FileType.TheVariants.{Directory};
 ghost use Rattle.wasi_resolve.specs.Resolved.{Resolved};
@@ -12,7 +12,7 @@ ghost use Rattle.wasi_p1_types.specs.CallParts.{WantsNoMemory, is_failure, with_
 ghost use Rattle.wasi_p1_model.specs.EntriesSeen.{entry_seen, entries_seen, reads_from, numbered_behind, IsListed};
 ghost use Rattle.wasi_p1_types.specs.Listing.{dots, numbered_at, HasShortNames};
 ghost use Rattle.wasi_p1_model.specs.Pages.{dirent_of, record_of, page};
-ghost use Rattle.wasi_p1_types.specs.Parts.{text_to};
+ghost use Rattle.wasi_p1_types.specs.SpecParts.{text_to};
 ghost use Rattle.wasi_p1_types.specs.Request.{ListDirectory, meant_of};
 
 use std::alloc::{AllocError, Global};
@@ -54,11 +54,11 @@ fn numbered<H: Host>(host: &mut H, dir: &Dir, entry: DirEntry) -> Result<Entry, 
     requires listed { IsListed entry }
     ensures cause { HasCause (H.faults host.old) (H.faults host.new) result }
     ensures live { H.live host.new ≡ H.live host.old }
-    ensures lineage { HasProvenance (Only dir.now.dir) Nothing Nothing (H.lookups host.old) (H.lookups host.new) }
+    ensures provenance { HasProvenance (Only dir.now.dir) Nothing Nothing (H.lookups host.old) (H.lookups host.new) }
     ensures name { IfOk result (λ e. e.name ≡ entry.name) }
-    ensures told { IsTrue H.told → Resolved (H.live host.old) (H.world host.old) (H.world host.new)
-        (reads_from (H.world host.old).tree ((H.world host.old).held dir.now.dir).node
-        (numbered_at (H.world host.old).tree ((H.world host.old).held dir.now.dir).node (entry_of entry)))
+    ensures modelled { IsTrue H.modelled → Resolved (H.live host.old) (H.model host.old) (H.model host.new)
+        (reads_from (H.model host.old).tree ((H.model host.old).held dir.now.dir).node
+        (numbered_at (H.model host.old).tree ((H.model host.old).held dir.now.dir).node (entry_of entry)))
         entry_seen result }
 {
     let Some(name) = Name::plain(entry.name.as_str()) else {
@@ -85,11 +85,11 @@ fn all_numbered<H: Host>(
     requires listed { All IsListed names.items }
     ensures cause { HasCause (H.faults host.old) (H.faults host.new) result }
     ensures live { H.live host.new ≡ H.live host.old }
-    ensures lineage { HasProvenance (Only dir.now.dir) Nothing Nothing (H.lookups host.old) (H.lookups host.new) }
+    ensures provenance { HasProvenance (Only dir.now.dir) Nothing Nothing (H.lookups host.old) (H.lookups host.new) }
     ensures short { IfOk result (λ entries. HasShortNames (entries_seen entries.items)) }
-    ensures told { IsTrue H.told → Resolved (H.live host.old) (H.world host.old) (H.world host.new)
-        (reads_from (H.world host.old).tree ((H.world host.old).held dir.now.dir).node
-        (numbered_behind (H.world host.old).tree ((H.world host.old).held dir.now.dir).node node (map entry_of names.items)))
+    ensures modelled { IsTrue H.modelled → Resolved (H.live host.old) (H.model host.old) (H.model host.new)
+        (reads_from (H.model host.old).tree ((H.model host.old).held dir.now.dir).node
+        (numbered_behind (H.model host.old).tree ((H.model host.old).held dir.now.dir).node node (map entry_of names.items)))
         (λ entries. entries_seen entries.items) result }
 {
     let mut entries = dots(alloc, node)?;
@@ -107,10 +107,10 @@ pub fn listing_of<H: Host>(alloc: Global, host: &mut H, dir: &Dir) -> Result<Vec
     requires live { contains (H.live host.old) dir.now.dir ≡ true }
     ensures cause { HasCause (H.faults host.old) (H.faults host.new) result }
     ensures live { H.live host.new ≡ H.live host.old }
-    ensures lineage { HasProvenance (Only dir.now.dir) Nothing Nothing (H.lookups host.old) (H.lookups host.new) }
+    ensures provenance { HasProvenance (Only dir.now.dir) Nothing Nothing (H.lookups host.old) (H.lookups host.new) }
     ensures short { IfOk result (λ entries. HasShortNames (entries_seen entries.items)) }
-    ensures told { IsTrue H.told → Resolved (H.live host.old) (H.world host.old) (H.world host.new)
-        (meant_of (H.world host.old).tree (ListDirectory ((H.world host.old).held dir.now.dir).node))
+    ensures modelled { IsTrue H.modelled → Resolved (H.live host.old) (H.model host.old) (H.model host.new)
+        (meant_of (H.model host.old).tree (ListDirectory ((H.model host.old).held dir.now.dir).node))
         (λ entries. entries_seen entries.items) result }
 {
     let names = wasi_resolve::read_dir(alloc, host, dir.dir)?;
@@ -208,7 +208,7 @@ pub fn write_page(
     ensures same { OnErr result (memory.new ≡ memory.old) }
     ensures refusal { IfErr result (λ e. is_failure e ≡ false) }
     ensures never_wants { IfErr result WantsNoMemory }
-    ensures row { with_after result memory.new ≡ text_to memory.old buf (page (entries_seen entries.now) cookie buf_len) }
+    ensures specified { with_after result memory.new ≡ text_to memory.old buf (page (entries_seen entries.now) cookie buf_len) }
 {
     let from = cookie as usize;
     let n = page_size(entries, from, buf_len);

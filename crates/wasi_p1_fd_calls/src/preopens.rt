@@ -22,7 +22,7 @@ fn preopen_name<'h, H: Host>(
     fd: u32,
 ) -> Option<&'h str>
     ensures name { option_map (λ name. name.now) result ≡ name_at holdings.now.preopens
-        (slice_get (guest_slots (H.world host.now).held descriptors.now.slots) fd) }
+        (slice_get (guest_slots (H.model host.now).held descriptors.now.slots) fd) }
 {
     match descriptors.get(fd)? {
         Slot::Directory(directory) => holdings.preopen_name(directory.preopen?),
@@ -40,8 +40,8 @@ pub fn preopen_at<'h, H: Host>(
 ) -> Result<&'h str, P1Error>
     requires code { refusal ≢ errnos.Io }
     ensures refusal { IfErr result (λ e. is_failure e ≡ false) }
-    ensures row { result_map_both (λ name. name.now) (λ e. e) result ≡ or_refused refusal
-        (name_at holdings.now.preopens (slice_get (guest_slots (H.world host.now).held descriptors.now.slots) fd)) }
+    ensures specified { result_map_both (λ name. name.now) (λ e. e) result ≡ or_refused refusal
+        (name_at holdings.now.preopens (slice_get (guest_slots (H.model host.now).held descriptors.now.slots) fd)) }
 {
     preopen_name(host, descriptors, holdings, fd).ok_or(P1Error::Errno(refusal))
 }
@@ -53,7 +53,7 @@ pub fn put_name(memory: &mut [u8], path: u32, path_len: u32, name: &str) -> Resu
     ensures size { length memory.new ≡ length memory.old }
     ensures same { OnErr result (memory.new ≡ memory.old) }
     ensures refusal { IfErr result (λ e. is_failure e ≡ false) }
-    ensures row { with_after result memory.new ≡ with_unit (name_into memory.old path name.now path_len) }
+    ensures specified { with_after result memory.new ≡ with_unit (name_into memory.old path name.now path_len) }
 {
     let bytes = name.as_bytes();
     if (path_len as usize) < bytes.len() {

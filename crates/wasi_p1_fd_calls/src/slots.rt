@@ -1,6 +1,6 @@
 //! Descriptors that are closed, or given another number.
 ghost use Rattle.std.specs.Prelude.{◌≡◌, ◌<◌, false, IsTrue, length, slice_get, slice_set, Some};
-ghost use Rattle.wasi_host.specs.Lineage.{Nothing};
+ghost use Rattle.wasi_host.specs.Provenance.{Nothing};
 ghost use Rattle.wasi_p1_state.specs.Held.{HoldsHandles};
 ghost use Rattle.wasi_p1_model.specs.Owners.{handles, Owns, SlotsTraced};
 ghost use Rattle.wasi_p1_types.specs.Numbering.{passes_at, renumbered};
@@ -29,9 +29,9 @@ pub fn close_slot<H: Host>(
     ensures max { descriptors.new.max ≡ descriptors.old.max }
     ensures owns { Owns (H.live fs.old.host) (H.live fs.new.host)
         (handles descriptors.old.slots) (handles descriptors.new.slots) }
-    ensures lineage { SlotsTraced Nothing descriptors.old.slots descriptors.new.slots
+    ensures provenance { SlotsTraced Nothing descriptors.old.slots descriptors.new.slots
         (H.lookups fs.old.host) (H.lookups fs.new.host) }
-    ensures stays { IsTrue H.told → Stays (H.world fs.old.host) (H.world fs.new.host) descriptors.new.slots }
+    ensures stays { IsTrue H.modelled → Stays (H.model fs.old.host) (H.model fs.new.host) descriptors.new.slots }
 {
     descriptors.close(fs, fd);
 }
@@ -57,9 +57,9 @@ pub fn renumber_slot<H: Host>(
     ensures max { descriptors.new.max ≡ descriptors.old.max }
     ensures owns { Owns (H.live fs.old.host) (H.live fs.new.host)
         (handles descriptors.old.slots) (handles descriptors.new.slots) }
-    ensures lineage { SlotsTraced Nothing descriptors.old.slots descriptors.new.slots
+    ensures provenance { SlotsTraced Nothing descriptors.old.slots descriptors.new.slots
         (H.lookups fs.old.host) (H.lookups fs.new.host) }
-    ensures stays { IsTrue H.told → Stays (H.world fs.old.host) (H.world fs.new.host) descriptors.new.slots }
+    ensures stays { IsTrue H.modelled → Stays (H.model fs.old.host) (H.model fs.new.host) descriptors.new.slots }
 {
     if from == to {
         return;

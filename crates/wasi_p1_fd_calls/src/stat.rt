@@ -41,7 +41,7 @@ fn looked_at<H: Host>(
     ensures logged { H.lookups fs.new.host ≡ H.lookups fs.old.host }
     ensures did { Lowered viewed (λ answer. IfErr answer NotMemory × IfOk answer IsStated
         × Performs H.Host fs.old.host fs.new.host None (meant_as stat_both
-        (stats (H.world fs.old.host).tree ((H.world fs.old.host).held (handle_of descriptor.now)).node))
+        (stats (H.model fs.old.host).tree ((H.model fs.old.host).held (handle_of descriptor.now)).node))
         (λ both. both) answer) result }
 {
     let stat = about(fs, descriptors, fd, descriptor, StatOf)?;
@@ -64,7 +64,7 @@ pub fn node_filestat<H: Host>(
     ensures live { H.live fs.new.host ≡ H.live fs.old.host }
     ensures logged { H.lookups fs.new.host ≡ H.lookups fs.old.host }
     ensures makes { LookMakes H.Host fs.old.host fs.new.host
-        (Direct (Stat ((H.world fs.old.host).held (handle_of descriptor.now)).node))
+        (Direct (Stat ((H.model fs.old.host).held (handle_of descriptor.now)).node))
         (λ metadata. filestat_in (stat_both metadata)) result }
 {
     let both = looked_at(fs, descriptors, fd, descriptor)?;
@@ -88,7 +88,7 @@ pub fn dir_fdstat<H: Host>(
     ensures live { H.live fs.new.host ≡ H.live fs.old.host }
     ensures logged { H.lookups fs.new.host ≡ H.lookups fs.old.host }
     ensures makes { LookMakes H.Host fs.old.host fs.new.host
-        (Direct (Flags ((H.world fs.old.host).held dir.dir).node))
+        (Direct (Flags ((H.model fs.old.host).held dir.dir).node))
         (λ _. give directory_fdstat) result }
 {
     let dir = Descriptor::Dir(dir);
@@ -111,8 +111,8 @@ pub fn open_file_fdstat<H: Host>(
     ensures live { H.live fs.new.host ≡ H.live fs.old.host }
     ensures logged { H.lookups fs.new.host ≡ H.lookups fs.old.host }
     ensures makes { LookMakes H.Host fs.old.host fs.new.host
-        (Direct (Stat ((H.world fs.old.host).held slot.file.file).node))
-        (λ metadata. give (file_told (open_file_of (H.world fs.old.host).held slot) metadata)) result }
+        (Direct (Stat ((H.model fs.old.host).held slot.file.file).node))
+        (λ metadata. give (file_told (open_file_of (H.model fs.old.host).held slot) metadata)) result }
 {
     let FileSlot { file, modes, .. } = slot;
     let mode = file.open_mode;

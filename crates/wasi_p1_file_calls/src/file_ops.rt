@@ -35,9 +35,9 @@ pub struct AdviseOf {
 
 impl<H: Host> FileCall<H> for AdviseOf {
     ghost Did = { λ call old new file answer. IfErr answer NotMemory × Performs H.Host old new None
-        (asks_at (H.world old).tree
-        (Advise ((H.world old).held file.file).node call.offset call.len (advice_named call.advice))
-        ((H.world old).held file.file).node) (λ unit. unit) answer };
+        (asks_at (H.model old).tree
+        (Advise ((H.model old).held file.file).node call.offset call.len (advice_named call.advice))
+        ((H.model old).held file.file).node) (λ unit. unit) answer };
 
     #[tactic(auto, using(wasi_p1_state::proofs::Viewing::of_file))]
     fn made(self, view: &mut WasiFilesystemCtxView<'_, H>, fd: Resource) -> FsResult<()> {
@@ -53,8 +53,8 @@ pub struct SetSizeOf {
 
 impl<H: Host> FileCall<H> for SetSizeOf {
     ghost Did = { λ call old new file. Performs H.Host old new (may_do file.perms Alter)
-        (asks_at (H.world old).tree (SetSize ((H.world old).held file.file) call.size)
-        ((H.world old).held file.file).node) (λ unit. unit) };
+        (asks_at (H.model old).tree (SetSize ((H.model old).held file.file) call.size)
+        ((H.model old).held file.file).node) (λ unit. unit) };
 
     #[tactic(auto, using(wasi_p1_state::proofs::Viewing::of_file))]
     fn made(self, view: &mut WasiFilesystemCtxView<'_, H>, fd: Resource) -> FsResult<()> {
@@ -80,10 +80,10 @@ pub fn set_size<H: Host>(
     ensures logged { H.lookups fs.new.host ≡ H.lookups fs.old.host }
 
     // The row, over every host and over one that tells its world.
-    ensures front { IsReplied (Direct (SetSize ((H.world fs.old.host).held file.now.file) size)) (λ _. give tt) result }
-    ensures told { IsTrue H.told → Makes (Rose (H.faults fs.old.host) (H.faults fs.new.host)) (H.live fs.old.host)
-        (H.world fs.old.host) (H.world fs.new.host)
-        (Direct (SetSize ((H.world fs.old.host).held file.now.file) size)) (λ _. give tt) result }
+    ensures front { IsReplied (Direct (SetSize ((H.model fs.old.host).held file.now.file) size)) (λ _. give tt) result }
+    ensures modelled { IsTrue H.modelled → Makes (Rose (H.faults fs.old.host) (H.faults fs.new.host)) (H.live fs.old.host)
+        (H.model fs.old.host) (H.model fs.new.host)
+        (Direct (SetSize ((H.model fs.old.host).held file.now.file) size)) (λ _. give tt) result }
 {
     raised(about_file(fs, descriptors, fd, file, SetSizeOf { size }))
 }
@@ -94,7 +94,7 @@ pub struct SyncDataOf;
 
 impl<H: Host> FileCall<H> for SyncDataOf {
     ghost Did = { λ _ old new file answer. IfErr answer NotMemory × Performs H.Host old new None
-        (syncs (H.world old).tree (H.world old).held (AFile file)) (λ unit. unit) answer };
+        (syncs (H.model old).tree (H.model old).held (AFile file)) (λ unit. unit) answer };
 
     #[tactic(auto, using(wasi_p1_state::proofs::Viewing::stored_file))]
     fn made(self, view: &mut WasiFilesystemCtxView<'_, H>, fd: Resource) -> FsResult<()> {
@@ -108,7 +108,7 @@ pub struct SyncOf;
 
 impl<H: Host> FileCall<H> for SyncOf {
     ghost Did = { λ _ old new file answer. IfErr answer NotMemory × Performs H.Host old new None
-        (syncs (H.world old).tree (H.world old).held (AFile file)) (λ unit. unit) answer };
+        (syncs (H.model old).tree (H.model old).held (AFile file)) (λ unit. unit) answer };
 
     #[tactic(auto, using(wasi_p1_state::proofs::Viewing::stored_file))]
     fn made(self, view: &mut WasiFilesystemCtxView<'_, H>, fd: Resource) -> FsResult<()> {

@@ -9,7 +9,7 @@ ghost use Rattle.wasi_p1_model.specs.CallTransition.{Causes};
 ghost use Rattle.wasi_p1_types.specs.Files.{base_in, host_advice, position_from, read_place_in};
 ghost use Rattle.wasi_p1_types.specs.Guest.{guest_slots};
 ghost use Rattle.wasi_p1_model.specs.Owners.{handles, Owned};
-ghost use Rattle.wasi_p1_types.specs.Parts.{permit};
+ghost use Rattle.wasi_p1_types.specs.SpecParts.{permit};
 ghost use Rattle.wasi_p1_model.specs.Putting.{appended_in, count_in, put_call, put_end, put_in, put_request};
 ghost use Rattle.wasi_p1_types.specs.Quotas.{allowance};
 ghost use Rattle.wasi_p1_types.specs.Spending.{growth_from};
@@ -42,9 +42,9 @@ pub fn read_place<H: Host>(
     ensures live { IfOk result (λ f. contains (H.live host.now) f.file.file ≡ true) }
     ensures is { IfOk result (λ f. slice_get descriptors.now.slots fd ≡ Some (Slot.File f)) }
     ensures refusal { IfErr result (λ e. is_failure e ≡ false) }
-    ensures row { result_map_both (open_file_of (H.world host.now).held) (λ e. e) result
-        ≡ read_place_in (guest_slots (H.world host.now).held descriptors.now.slots) descriptors.now.max
-        (slice_get (guest_slots (H.world host.now).held descriptors.now.slots) fd) }
+    ensures specified { result_map_both (open_file_of (H.model host.now).held) (λ e. e) result
+        ≡ read_place_in (guest_slots (H.model host.now).held descriptors.now.slots) descriptors.now.max
+        (slice_get (guest_slots (H.model host.now).held descriptors.now.slots) fd) }
 {
     let file = file_at(host, descriptors, fd, FileUse::ReadAt)?;
     room_at(host, descriptors, 1)?;
@@ -65,7 +65,7 @@ fn base_of(position: u64, whence: Whence) -> Option<u64>
 /// A position so far from another one: Inval where that is below 0, or 64 bits don't hold it.
 #[tactic(auto, unfolding(wasi_p1_types::specs::Files::position_from))]
 fn position_from(base: u64, offset: i64) -> Result<u64, P1Error>
-    ensures row { result ≡ position_from base offset }
+    ensures specified { result ≡ position_from base offset }
     ensures refusal { IfErr result (λ e. is_failure e ≡ false) }
     ensures never_wants { IfErr result WantsNoMemory }
 {
@@ -81,10 +81,10 @@ fn position_from_end<H: Host>(host: &mut H, file: Handle, offset: i64) -> Result
     ensures never_wants { IfErr result WantsNoMemory }
 
     // The row, over every host and over one that tells its world.
-    ensures front { IsReplied (Direct (Stat ((H.world host.old).held file).node))
+    ensures front { IsReplied (Direct (Stat ((H.model host.old).held file).node))
         (λ metadata. position_from metadata.size offset) result }
-    ensures told { IsTrue H.told → Makes (Rose (H.faults host.old) (H.faults host.new)) (H.live host.old)
-        (H.world host.old) (H.world host.new) (Direct (Stat ((H.world host.old).held file).node))
+    ensures modelled { IsTrue H.modelled → Makes (Rose (H.faults host.old) (H.faults host.new)) (H.live host.old)
+        (H.model host.old) (H.model host.new) (Direct (Stat ((H.model host.old).held file).node))
         (λ metadata. position_from metadata.size offset) result }
 {
     let metadata = host.stat(file)?;
@@ -109,11 +109,11 @@ pub fn position_sought<H: Host>(
 
     // The row, over every host and over one that tells its world.
     ensures known { Knows (base_in position whence) (λ base. position_from base offset) result host.old host.new }
-    ensures front { base_in position whence ≡ None → IsReplied (Direct (Stat ((H.world host.old).held file).node))
+    ensures front { base_in position whence ≡ None → IsReplied (Direct (Stat ((H.model host.old).held file).node))
         (λ metadata. position_from metadata.size offset) result }
-    ensures told { IsTrue H.told → base_in position whence ≡ None
-        → Makes (Rose (H.faults host.old) (H.faults host.new)) (H.live host.old) (H.world host.old)
-        (H.world host.new) (Direct (Stat ((H.world host.old).held file).node))
+    ensures modelled { IsTrue H.modelled → base_in position whence ≡ None
+        → Makes (Rose (H.faults host.old) (H.faults host.new)) (H.live host.old) (H.model host.old)
+        (H.model host.new) (Direct (Stat ((H.model host.old).held file).node))
         (λ metadata. position_from metadata.size offset) result }
 {
     let Some(base) = base_of(position, whence) else {
@@ -132,9 +132,9 @@ fn append_piece<H: Host>(host: &mut H, file: Handle, piece: &[u8]) -> Result<u64
     ensures logged { H.lookups host.new ≡ H.lookups host.old }
 
     // The row, over every host and over one that tells its world.
-    ensures front { IsReplied (Direct (Append ((H.world host.old).held file) piece.now)) give result }
-    ensures told { IsTrue H.told → Makes (Rose (H.faults host.old) (H.faults host.new)) (H.live host.old)
-        (H.world host.old) (H.world host.new) (Direct (Append ((H.world host.old).held file) piece.now)) give result }
+    ensures front { IsReplied (Direct (Append ((H.model host.old).held file) piece.now)) give result }
+    ensures modelled { IsTrue H.modelled → Makes (Rose (H.faults host.old) (H.faults host.new)) (H.live host.old)
+        (H.model host.old) (H.model host.new) (Direct (Append ((H.model host.old).held file) piece.now)) give result }
 {
     let count = host.append(file, piece)?;
     if count == 0 && !piece.is_empty() {
@@ -151,9 +151,9 @@ fn put_behind<H: Host>(host: &mut H, file: Handle, piece: &[u8]) -> Result<Put, 
     ensures logged { H.lookups host.new ≡ H.lookups host.old }
 
     // The row, over every host and over one that tells its world.
-    ensures front { IsReplied (Behind ((H.world host.old).held file) piece.now) (λ put. give (appended_in put)) result }
-    ensures told { IsTrue H.told → Makes (Rose (H.faults host.old) (H.faults host.new)) (H.live host.old)
-        (H.world host.old) (H.world host.new) (Behind ((H.world host.old).held file) piece.now)
+    ensures front { IsReplied (Behind ((H.model host.old).held file) piece.now) (λ put. give (appended_in put)) result }
+    ensures modelled { IsTrue H.modelled → Makes (Rose (H.faults host.old) (H.faults host.new)) (H.live host.old)
+        (H.model host.old) (H.model host.new) (Behind ((H.model host.old).held file) piece.now)
         (λ put. give (appended_in put)) result }
 {
     let count = append_piece(host, file, piece)?;
@@ -179,12 +179,12 @@ pub fn put_piece<H: Host>(
     ensures logged { H.lookups host.new ≡ H.lookups host.old }
 
     // The row, over every host and over one that tells its world.
-    ensures front { IsReplied (Direct (put_call modes.append ((H.world host.old).held file) offset piece.now))
-        (λ answer. give (count_in modes.append ((H.world host.old).held file) offset piece.now answer)) result }
-    ensures told { IsTrue H.told → Makes (Rose (H.faults host.old) (H.faults host.new)) (H.live host.old)
-        (H.world host.old) (H.world host.new)
-        (Direct (put_call modes.append ((H.world host.old).held file) offset piece.now))
-        (λ answer. give (count_in modes.append ((H.world host.old).held file) offset piece.now answer)) result }
+    ensures front { IsReplied (Direct (put_call modes.append ((H.model host.old).held file) offset piece.now))
+        (λ answer. give (count_in modes.append ((H.model host.old).held file) offset piece.now answer)) result }
+    ensures modelled { IsTrue H.modelled → Makes (Rose (H.faults host.old) (H.faults host.new)) (H.live host.old)
+        (H.model host.old) (H.model host.new)
+        (Direct (put_call modes.append ((H.model host.old).held file) offset piece.now))
+        (λ answer. give (count_in modes.append ((H.model host.old).held file) offset piece.now answer)) result }
 {
     if modes.append {
         return append_piece(host, file, piece);
@@ -207,12 +207,12 @@ pub fn put_next<H: Host>(
     ensures logged { H.lookups host.new ≡ H.lookups host.old }
 
     // The row, over every host and over one that tells its world.
-    ensures front { IsReplied (put_request modes.append ((H.world host.old).held file) position piece.now)
-        (λ reply. give (put_in modes.append ((H.world host.old).held file) position piece.now reply)) result }
-    ensures told { IsTrue H.told → Makes (Rose (H.faults host.old) (H.faults host.new)) (H.live host.old)
-        (H.world host.old) (H.world host.new)
-        (put_request modes.append ((H.world host.old).held file) position piece.now)
-        (λ reply. give (put_in modes.append ((H.world host.old).held file) position piece.now reply)) result }
+    ensures front { IsReplied (put_request modes.append ((H.model host.old).held file) position piece.now)
+        (λ reply. give (put_in modes.append ((H.model host.old).held file) position piece.now reply)) result }
+    ensures modelled { IsTrue H.modelled → Makes (Rose (H.faults host.old) (H.faults host.new)) (H.live host.old)
+        (H.model host.old) (H.model host.new)
+        (put_request modes.append ((H.model host.old).held file) position piece.now)
+        (λ reply. give (put_in modes.append ((H.model host.old).held file) position piece.now reply)) result }
 {
     if modes.append {
         return put_behind(host, file, piece);
@@ -249,10 +249,10 @@ fn growth_of<H: Host>(
     ensures fits { IfOk result (λ growth. limit.used + growth ≤ limit.most) }
 
     // The row, over every host and over one that tells its world.
-    ensures front { IsReplied (Direct (Stat ((H.world host.old).held file).node))
+    ensures front { IsReplied (Direct (Stat ((H.model host.old).held file).node))
         (λ metadata. growth_from limit end metadata.size) result }
-    ensures told { IsTrue H.told → Makes (Rose (H.faults host.old) (H.faults host.new)) (H.live host.old)
-        (H.world host.old) (H.world host.new) (Direct (Stat ((H.world host.old).held file).node))
+    ensures modelled { IsTrue H.modelled → Makes (Rose (H.faults host.old) (H.faults host.new)) (H.live host.old)
+        (H.model host.old) (H.model host.new) (Direct (Stat ((H.model host.old).held file).node))
         (λ metadata. growth_from limit end metadata.size) result }
 {
     let metadata = host.stat(file)?;
@@ -279,11 +279,11 @@ pub fn check_growth<H: Host>(
     // The row, over every host and over one that tells its world.
     ensures unbound { allowance holdings.now file.now.open_mode ≡ None → (result ≡ Ok 0) × (host.new ≡ host.old) }
     ensures front { (limit : Allowance) → allowance holdings.now file.now.open_mode ≡ Some limit
-        → IsReplied (Direct (Stat ((H.world host.old).held file.now.file).node))
+        → IsReplied (Direct (Stat ((H.model host.old).held file.now.file).node))
         (λ metadata. growth_from limit end metadata.size) result }
-    ensures told { IsTrue H.told → (limit : Allowance) → allowance holdings.now file.now.open_mode ≡ Some limit
+    ensures modelled { IsTrue H.modelled → (limit : Allowance) → allowance holdings.now file.now.open_mode ≡ Some limit
         → Makes (Rose (H.faults host.old) (H.faults host.new)) (H.live host.old)
-        (H.world host.old) (H.world host.new) (Direct (Stat ((H.world host.old).held file.now.file).node))
+        (H.model host.old) (H.model host.new) (Direct (Stat ((H.model host.old).held file.now.file).node))
         (λ metadata. growth_from limit end metadata.size) result }
 {
     let Some(limit) = holdings.allowance(file.open_mode) else {
@@ -295,7 +295,7 @@ pub fn check_growth<H: Host>(
 /// Whether a file may be altered: Perm unless its permissions are read-write.
 #[tactic(auto, unfolding(wasi_fs::specs::Calls::may_do))]
 pub fn check_alter(perms: FsPerms) -> Result<(), P1Error>
-    ensures row { result ≡ permit (may_do perms Alter) }
+    ensures specified { result ≡ permit (may_do perms Alter) }
     ensures permitted { OnOk result (may_do perms Alter ≡ None) }
     ensures refusal { IfErr result (λ e. is_failure e ≡ false) }
 {

@@ -10,9 +10,9 @@ use crate::transfer::read_into;
 use wasi_guest::{Iovec, Value};
 use wasi_host::Host;
 use wasi_p1_state::P1State;
-use wasi_p1_state::lookups::{file_at, put_back, sink_at, source_at};
+use wasi_p1_state::lookups::{file_at, put_back, write_target_at, read_target_at};
 use wasi_p1_types::{
-    FileSlot, FileUse, P1Error, Put, Sink, Source, buffer_at, bytes_at, check_write,
+    FileSlot, FileUse, P1Error, Put, WriteTarget, ReadTarget, buffer_at, bytes_at, check_write,
 };
 
 /// How many bytes a read at an offset fills at most.
@@ -101,18 +101,18 @@ pub fn fd_read<H: Host>(
     ensures spec { MeetsSpec H.Host context.old context.new memory.old memory.new (FdRead fd iovs iovs_len) result }
 {
     let buffer = buffer_at(memory, &mut context.fuel, iovs, iovs_len)?;
-    let source = source_at(&context.fs.host, &context.descriptors, fd)?;
+    let source = read_target_at(&context.fs.host, &context.descriptors, fd)?;
     bytes_at(memory, buffer.buf, buffer.buf_len)?;
     let FileSlot {
         file,
         position,
         modes,
     } = match source {
-        Source::Input => {
+        ReadTarget::Input => {
             let read = context.holdings.read_input(memory, buffer)?;
             return Ok(Value::Number(read as u64));
         }
-        Source::File(slot) => slot,
+        ReadTarget::File(slot) => slot,
     };
     let handle = file.file;
     let count = read_into(&mut context.fs.host, memory, handle, position, buffer)?;
@@ -140,22 +140,22 @@ pub fn fd_write<H: Host>(
 ) -> Result<Value, P1Error>
     ensures host_laws { KeepsHostLaws H.Host context.old context.new memory.old (FdWrite fd iovs iovs_len) result }
     ensures spec { MeetsSpec H.Host context.old context.new memory.old memory.new (FdWrite fd iovs iovs_len) result }
-    ensures whole { IsTrue H.told → IfOk result (WritesWhole (state_of H.world context.old memory.old)
-        (state_of H.world context.new memory.new) fd iovs iovs_len) }
+    ensures whole { IsTrue H.modelled → IfOk result (WritesWhole (state_of H.model context.old memory.old)
+        (state_of H.model context.new memory.new) fd iovs iovs_len) }
 {
     let buffer = buffer_at(memory, &mut context.fuel, iovs, iovs_len)?;
-    let sink = sink_at(&context.fs.host, &context.descriptors, fd)?;
+    let sink = write_target_at(&context.fs.host, &context.descriptors, fd)?;
     let piece = bytes_at(memory, buffer.buf, buffer.buf_len)?;
     let FileSlot {
         file,
         position,
         modes,
     } = match sink {
-        Sink::Output(output) => {
+        WriteTarget::Output(output) => {
             context.holdings.write(output, piece)?;
             return Ok(Value::Number(piece.len() as u64));
         }
-        Sink::File(slot) => slot,
+        WriteTarget::File(slot) => slot,
     };
     check_write(file.perms)?;
     let end = put_end(modes, position, piece);

@@ -33,10 +33,10 @@ pub fn read_into<H: Host>(
     ensures same { OnErr result (memory.new ≡ memory.old) }
 
     // The row, over every host and over one that tells its world.
-    ensures front { IsReplied (Direct (Pread ((H.world host.old).held file) position buffer.buf_len))
+    ensures front { IsReplied (Direct (Pread ((H.model host.old).held file) position buffer.buf_len))
         (filled_at memory.old buffer.buf) (with_after result memory.new) }
-    ensures told { IsTrue H.told → ReadsInto (Rose (H.faults host.old) (H.faults host.new)) (H.live host.old)
-        (H.world host.old) (H.world host.new) ((H.world host.old).held file) position buffer.buf buffer.buf_len
+    ensures modelled { IsTrue H.modelled → ReadsInto (Rose (H.faults host.old) (H.faults host.new)) (H.live host.old)
+        (H.model host.old) (H.model host.new) ((H.model host.old).held file) position buffer.buf buffer.buf_len
         memory.old memory.new result }
 {
     let at = buffer.buf as usize;
@@ -61,9 +61,9 @@ pub fn write_piece<H: Host>(
     ensures fits { IfOk result (λ n. position + n < 2 ^ 64) }
 
     // The row, over every host and over one that tells its world.
-    ensures front { IsReplied (Direct (Pwrite ((H.world host.old).held file) position piece.now)) give result }
-    ensures told { IsTrue H.told → WritesPiece (Rose (H.faults host.old) (H.faults host.new)) (H.live host.old)
-        (H.world host.old) (H.world host.new) ((H.world host.old).held file) position piece.now result }
+    ensures front { IsReplied (Direct (Pwrite ((H.model host.old).held file) position piece.now)) give result }
+    ensures modelled { IsTrue H.modelled → WritesPiece (Rose (H.faults host.old) (H.faults host.new)) (H.live host.old)
+        (H.model host.old) (H.model host.new) ((H.model host.old).held file) position piece.now result }
 {
     let count = host.pwrite(file, piece, position)?;
     if count == 0 && !piece.is_empty() {

@@ -19,15 +19,15 @@ use Rattle.wasi_host.proofs.Chain.{free}
 use Rattle.wasi_host.proofs.Leaving.{each_kind}
 use Rattle.wasi_host.proofs.Refusals.{free_of}
 use Rattle.wasi_host.proofs.ValidSteps.{CanLook, can_open, can_make_directory, can_make_link, can_add}
-use Rattle.wasi_resolve.specs.EntryOps.{EntryOp, PlaceAnswer, CreateDir, Symlink, call_at, answer_in, place_for, step_in}
+use Rattle.wasi_resolve.specs.EntryOps.{EntryOp, EntryAnswer, CreateDir, Symlink, call_at, answer_in, place_for, step_in}
 use Rattle.wasi_resolve.specs.TwoPathOps.{HardLink, Places, places_for, asks_directory, answer_at_two, step_at_two}
-use Rattle.wasi_resolve.specs.PathRequest.{AtPlace, AtTwo, Opened, answer_at, as_asked}
+use Rattle.wasi_resolve.specs.PathRequest.{AtEntry, AtTwo, Opened, answer_at, as_asked}
 use Rattle.wasi_resolve.specs.Paths.{Opening, Place, opening, opening_of, step_of}
 use Rattle.wasi_resolve.specs.Walk.{Open, Outcome, Stop, Name, Dot, walk}
 use Rattle.wasi_resolve.proofs.Requests.{as_opened}
 use Rattle.wasi_p1_model.specs.AppendOnly.{IsFree, Adds, nothing, make_file, make_directory, make_link, add_name, put_at_end}
 use Rattle.wasi_p1_types.specs.Files.{keeps_append}
-use Rattle.wasi_p1_types.specs.Parts.{permit}
+use Rattle.wasi_p1_types.specs.SpecParts.{permit}
 use Rattle.wasi_p1_model.specs.Putting.{put_call, put_request}
 use Rattle.wasi_p1_types.specs.RawFlags.{modes_under}
 use Rattle.wasi_p1_types.specs.Request.{Path, Direct, reply_of, after}
@@ -78,7 +78,7 @@ open_adds t d text how {found} uncut answered = by (walk t d text (Open (options
 -- ---- something is done at a place
 
 -- what a call adds at each place where it is answered is added
-place_adds : (t : Tree) (what : EntryOp) {reply : PlaceAnswer what}
+place_adds : (t : Tree) (what : EntryOp) {reply : EntryAnswer what}
     → ((p : Place) → answer_in t what p ≡ Ok reply → Adds t (step t (call_at what p)))
     → (m : Result Place ErrorCode) → (m >>= answer_in t what) ≡ Ok reply → Adds t (step_in t what m)
 place_adds t what adds (Ok p) is = adds p is
@@ -86,7 +86,7 @@ place_adds t what adds (Err code) is = nothing refl
 
 -- a directory is made
 pub directory_adds : (t : Tree) (d : ℕ) (text : List ℕ) {done : Unit {0}}
-    → reply_of t (Path (AtPlace d text CreateDir)) ≡ Ok done → Adds t (after t (Path (AtPlace d text CreateDir)))
+    → reply_of t (Path (AtEntry d text CreateDir)) ≡ Ok done → Adds t (after t (Path (AtEntry d text CreateDir)))
 directory_adds t d text answered =
     place_adds t CreateDir (λ p is.
     let can = can_make_directory t p.directory p.name (free_of t (MakeDirAt p.directory p.name) is) in
@@ -95,8 +95,8 @@ directory_adds t d text answered =
 
 -- a link is made
 pub link_adds : (t : Tree) (d : ℕ) (text target : List ℕ) {done : Unit {0}}
-    → reply_of t (Path (AtPlace d text (Symlink target))) ≡ Ok done
-    → Adds t (after t (Path (AtPlace d text (Symlink target))))
+    → reply_of t (Path (AtEntry d text (Symlink target))) ≡ Ok done
+    → Adds t (after t (Path (AtEntry d text (Symlink target))))
 link_adds t d text target answered =
     place_adds t (Symlink target) (λ p is.
     let can = (can_make_link t p.directory p.name target (free_of t (SymlinkAt target p.directory p.name) is)).0 in

@@ -6,9 +6,9 @@ use Rattle.wasi_host.specs.declared.errors.ErrorCode.{ErrorCode}
 use Rattle.wasi_p1_types.specs.Guest.{Guest, State}
 use Rattle.wasi_p1_types.specs.Request.{Request, Reply, reply_of, after, starts_at}
 use Rattle.wasi_host.specs.Steps.{◌>>=◌}
-pub use Rattle.wasi_p1_types.specs.CallResult.{row_on}
+pub use Rattle.wasi_p1_types.specs.CallResult.{spec_on}
 use Rattle.wasi_p1_types.specs.CallResult.{CallResult, give, Program, done, asking, beside, from_host, with_tree}
-use Rattle.wasi_p1_model.specs.Calls.{Stem, stem_in, row, turn}
+use Rattle.wasi_p1_model.specs.Calls.{Stem, stem_in, call_spec, turn}
 use Rattle.wasi_p1_model.proofs.LocalCalls.{given_by, KeepsSlots, StaysNear, IsLocal, AsksNear}
 use Rattle.wasi_p1_model.specs.StatesAgree.{Alike, AnswerAlike}
 use Rattle.wasi_guest.specs.declared.call.Call.{Call}
@@ -17,7 +17,7 @@ use Rattle.wasi_guest.specs.declared.answer.Value.{Value}
 use Rattle.wasi_host.proofs.Agreeing.{same_agree, still_closed}
 use Rattle.wasi_p1_model.proofs.Changing.{named_has, nodes_stay}
 use Rattle.wasi_p1_model.proofs.RequestsAgree.{after_agree, reply_same, after_closed, given_seen}
-use Rattle.wasi_p1_model.proofs.Locality.{row_near}
+use Rattle.wasi_p1_model.proofs.Locality.{spec_near}
 
 -- an answer and a guest, beside the tree after them
 abbrev pub over : Tree → CallResult (Value × Guest) → CallResult (Value × State)
@@ -30,7 +30,7 @@ replied t r next a = over (after t r) (from_host a >>= next)
 
 module _ {Seen : ℕ → Type 0} {s s' : State} (alike : Alike Seen s s') where
   done_alike : (stem : Stem) (p : Value × Guest) → StaysNear s.guest stem [] p
-      → AnswerAlike Seen s (row_on s.tree (Ok (done p))) (row_on s'.tree (Ok (done p)))
+      → AnswerAlike Seen s (spec_on s.tree (Ok (done p))) (spec_on s'.tree (Ok (done p)))
   done_alike stem p stays = (
     refl,
     record {
@@ -69,17 +69,17 @@ module _ {Seen : ℕ → Type 0} {s s' : State} (alike : Alike Seen s s') where
     reply_alike (Ok reply) is = next_alike reply is (next reply) (near.slots reply)
     reply_alike (Err code) is = refl
 
-    asking_alike : AnswerAlike Seen s (row_on s.tree (Ok (asking r next))) (row_on s'.tree (Ok (asking r next)))
-    asking_alike = subst (λ a. AnswerAlike Seen s (row_on s.tree (Ok (asking r next))) (replied s'.tree r next a))
+    asking_alike : AnswerAlike Seen s (spec_on s.tree (Ok (asking r next))) (spec_on s'.tree (Ok (asking r next)))
+    asking_alike = subst (λ a. AnswerAlike Seen s (spec_on s.tree (Ok (asking r next))) (replied s'.tree r next a))
         (reply_same alike.closed alike.trees r starts_seen) (reply_alike (reply_of s.tree r) refl)
 
-  row_alike : (call : Call) (m : CallResult (Program (Value × Guest))) → IsLocal s.guest call m
-      → AnswerAlike Seen s (row_on s.tree m) (row_on s'.tree m)
-  row_alike call (Ok (done p)) near = done_alike (stem_in call) p near.slots
-  row_alike call (Ok (asking r next)) near = asking_alike near
-  row_alike call (Err e) never = refl
+  spec_alike : (call : Call) (m : CallResult (Program (Value × Guest))) → IsLocal s.guest call m
+      → AnswerAlike Seen s (spec_on s.tree m) (spec_on s'.tree m)
+  spec_alike call (Ok (done p)) near = done_alike (stem_in call) p near.slots
+  spec_alike call (Ok (asking r next)) near = asking_alike near
+  spec_alike call (Err e) never = refl
 
   -- two states that are alike answer a call alike, and are alike after it
   pub turn_alike : (call : FueledCall) → AnswerAlike Seen s (turn s call) (turn s' call)
-  turn_alike call = subst (λ (g : Guest). AnswerAlike Seen s (turn s call) (row_on s'.tree (row g call))) alike.guest
-      (row_alike call.call (row s.guest call) (row_near s.guest call))
+  turn_alike call = subst (λ (g : Guest). AnswerAlike Seen s (turn s call) (spec_on s'.tree (call_spec g call))) alike.guest
+      (spec_alike call.call (call_spec s.guest call) (spec_near s.guest call))

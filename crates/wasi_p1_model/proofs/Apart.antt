@@ -11,7 +11,7 @@ use Rattle.wasi_guest.specs.declared.call.Call.{Call}
 use Rattle.wasi_guest.specs.declared.quota.QuotaUsed.{QuotaUsed}
 use Rattle.wasi_guest.specs.declared.call.Call.TheVariants as calls
 use Rattle.wasi_host.specs.Agree.{IsClosed, IsMade}
-use Rattle.wasi_host.specs.HostLaws.{World}
+use Rattle.wasi_host.specs.HostLaws.{HostModel}
 use Rattle.wasi_host.specs.Tree.{Tree, Content, File, Directory, Link, node_at, next_of, names_of, is_directory}
 use Rattle.wasi_host.specs.ValidTree.{IsValidTree}
 use Rattle.wasi_host.proofs.Agreeing.{reach_closed}
@@ -19,24 +19,24 @@ use Rattle.wasi_host.proofs.Carrying.{named_within}
 use Rattle.wasi_host.proofs.Changes.{node_at-past}
 use Rattle.wasi_host.proofs.Leaving.{LeavesFor, Contains-here, named_in, no_name, stays_near}
 use Rattle.wasi_p1_model.specs.AppendOnly.{AppendsAtEnd, AreApart, AppendingStays, KeepsNode, MayAlterNothing, NodesAreThere, OnlyGrows, ReachedUnder, opened, under, RunsKeepWhatIsApart, RunsOnlyGrow}
-use Rattle.wasi_p1_model.specs.CallTransition.{Turns, NamesUnder, in_world}
+use Rattle.wasi_p1_model.specs.CallTransition.{Turns, NamesUnder, in_model}
 use Rattle.wasi_p1_types.specs.Front.{FueledCall}
 use Rattle.wasi_p1_types.specs.Guest.{Guest, State}
 use Rattle.wasi_p1_types.specs.Request.{Request, Reply, reply_of, after}
 use Rattle.wasi_p1_types.specs.CallResult.{CallResult, Program, done, asking}
-use Rattle.wasi_p1_model.specs.Calls.{through, stem_in, descriptors_named, row, turn}
+use Rattle.wasi_p1_model.specs.Calls.{through, stem_in, descriptors_named, call_spec, turn}
 use Rattle.wasi_p1_model.specs.Trace.{TraceStep, Played, Faulted}
 use Rattle.wasi_p1_model.specs.Stems.{stems_by, HasPerms}
 use Rattle.wasi_guest.specs.declared.answer.Answer.TheVariants as answers
-use Rattle.wasi_p1_model.proofs.Alike.{row_on}
+use Rattle.wasi_p1_model.proofs.Alike.{spec_on}
 use Rattle.wasi_p1_model.proofs.Changing.{slot_perms}
 use Rattle.wasi_p1_model.proofs.Elsewhere.{StaysOr, request_stays}
 use Rattle.wasi_p1_model.proofs.Growing.{adds_grow, still_grows, grows_on, keeps_itself, keeps_same, keeps_on}
 use Rattle.wasi_p1_types.specs.declared.error.P1Error.{P1Error}
 use Rattle.wasi_p1_model.proofs.Moving.{Moves, turn_moves, turned_moves, run_keeps, over_tree, over_guest, replied_by}
 use Rattle.wasi_p1_model.proofs.LocalCalls.{IsLocal, IsNamed, AllUnder, AsksNear, HasNode, KeepsSlots, StaysNear, Permitted, leaves, changes, given_by}
-use Rattle.wasi_p1_model.proofs.Locality.{row_near}
-use Rattle.wasi_p1_model.proofs.Locality.Parts.{one_under}
+use Rattle.wasi_p1_model.proofs.Locality.{spec_near}
+use Rattle.wasi_p1_model.proofs.Locality.SpecParts.{one_under}
 use Rattle.wasi_p1_model.proofs.Permitting.{turned_permitted}
 use Rattle.wasi_p1_model.proofs.RequestsAgree.{given_seen}
 use Rattle.wasi_p1_model.proofs.RequestsLeave.{request_leaves}
@@ -137,23 +137,23 @@ asking_slots {s} {call} {r} {p = p} near reply is stays fd n perms has node = el
 
 -- ---- whatever it answers
 
-row_leaves : {s : State} {call : Call} (m : CallResult (Program (Value × Guest))) (p : Value × State) → IsLocal s.guest call m
-    → row_on s.tree m ≡ Ok p → Leaves s call p.1
-row_leaves {s} {call} (Ok (done q)) p near is =
+spec_leaves : {s : State} {call : Call} (m : CallResult (Program (Value × Guest))) (p : Value × State) → IsLocal s.guest call m
+    → spec_on s.tree m ≡ Ok p → Leaves s call p.1
+spec_leaves {s} {call} (Ok (done q)) p near is =
     let same : p.1.tree ≡ s.tree = over_tree (Ok q) is in
     let stays = subst (KeepsSlots s.guest (stem_in call) []) (over_guest s.tree (Ok q) is) near.slots in record {
       tree = subst (TreeLeaves s call) (sym same) (still_leaves s call);
       slots = done_slots stays;
       appends = stays.appends;
     }
-row_leaves {s} {call} (Ok (asking r next)) p near is =
+spec_leaves {s} {call} (Ok (asking r next)) p near is =
     let did = replied_by s.tree r next is in
     let stays = subst (KeepsSlots s.guest (stem_in call) (given_by r did.reply)) did.gives (near.slots did.reply) in record {
       tree = subst (TreeLeaves s call) (sym did.tree) (asking_leaves near did.reply did.is);
       slots = subst (λ u. SlotsLeave s call u p.1.guest) (sym did.tree) (asking_slots near did.reply did.is stays);
       appends = stays.appends;
     }
-row_leaves (Err e) p near is = absurd (cc)
+spec_leaves (Err e) p near is = absurd (cc)
 
 -- where the descriptors stay, by the tree alone
 tree_leaves : {s : State} {call : Call} {used : QuotaUsed} (s' : State) (u : Tree)
@@ -165,20 +165,20 @@ tree_leaves {s} {call} {used} s' u counts is left =
     still = record { tree = left; slots = λ fd n perms has node. same_slots fd n perms has node; appends = λ all. all }
 
 moves_leave : {s : State} (call : FueledCall) (s' : State) → Moves s s' (turn s call) → Leaves s call.call s'
-moves_leave {s} call s' (inl given) = row_leaves (row s.guest call) (given.0, s') (row_near s.guest call) given.1
+moves_leave {s} call s' (inl given) = spec_leaves (call_spec s.guest call) (given.0, s') (spec_near s.guest call) given.1
 moves_leave {s} call s' (inr still) = elim still.tree [
   | inl same ↦ tree_leaves s' s.tree still.guest same (still_leaves s call.call)
   | inr step ↦ tree_leaves s' step.given.1.tree still.guest step.tree
-      (row_leaves (row s.guest call) step.given (row_near s.guest call) step.answers).tree
+      (spec_leaves (call_spec s.guest call) step.given (spec_near s.guest call) step.answers).tree
 ]
 
 turned_leaves : (t : TraceStep) → Played t ⊎ Faulted t → Leaves t.before t.call.call t.after
 turned_leaves t took = moves_leave t.call t.after (turned_moves t took)
 
-pub turn_appends : {rose : Type 0} {w v : World} {g g' : Guest} {call : FueledCall} {r : Result Value P1Error}
+pub turn_appends : {rose : Type 0} {w v : HostModel} {g g' : Guest} {call : FueledCall} {r : Result Value P1Error}
     → Turns rose w v g g' call r → AppendsAtEnd g → AppendsAtEnd g'
 turn_appends {rose} {w} {v} {g} {g'} {call} {r} takes =
-    (moves_leave call (in_world v g') (turn_moves rose _ call r takes.turn)).appends
+    (moves_leave call (in_model v g') (turn_moves rose _ call r takes.turn)).appends
 
 -- ---- what is reached then
 

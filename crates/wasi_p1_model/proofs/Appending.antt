@@ -6,7 +6,7 @@ use Rattle.std.specs.Prelude.{All}
 use Rattle.wasi_host.specs.Agree.{Touches}
 use Rattle.wasi_host.specs.Answer.{host_answer, metadata_of, unless}
 use Rattle.wasi_host.specs.HostCall.{Append, Stat}
-use Rattle.wasi_host.specs.HostLaws.{World, Handles, Told, After, MeansErr}
+use Rattle.wasi_host.specs.HostLaws.{HostModel, Handles, RefinesCall, After, MeansErr}
 use Rattle.wasi_host.specs.Refusal.{refusal}
 use Rattle.wasi_host.specs.Step.{step, with_nodes}
 use Rattle.wasi_host.specs.Steps.{◌>>=◌}
@@ -43,11 +43,11 @@ touched_one {n = n} with =
     touches_with (n ∷ []) with (λ m has. inl (root m has)) (All-contains_itself (n ∷ []))
 
 -- it leaves the tree, and touches its node at most
-pub record LooksAt (n : ℕ) (u v : World) : Type 0 where
+pub record LooksAt (n : ℕ) (u v : HostModel) : Type 0 where
   pub tree : v.tree ≡ u.tree
   pub touched : (t t' : Tree) → Touches t t' (n ∷ []) [] u.touched v.touched
 
-pub look : {A : Type 0} {u v : World} (n : ℕ) (result : Result A HostError) → After u (Stat n) result v → LooksAt n u v
+pub look : {A : Type 0} {u v : HostModel} (n : ℕ) (result : Result A HostError) → After u (Stat n) result v → LooksAt n u v
 look n (Ok a) did = record { tree = did.tree; touched = λ t t'. no_ends (touched_one did.touched) }
 look n (Err Memory) (inl did) = record { tree = did.tree; touched = λ t t'. touches_same did.touched }
 look n (Err Memory) (inr did) = record { tree = did.tree; touched = λ t t'. no_ends (touched_one did.touched) }
@@ -75,10 +75,10 @@ pub behind_reply : (t : Tree) (f : OpenHandle) (piece : List ℕ) {reply : ℕ �
     → reply ≡ (length piece, metadata_of (step t (Append f piece)) f.node)
 behind_reply t f piece {reply} is = by (refusal t (Append f piece)) is
   where
-    told : ℕ → Result (ℕ × Metadata) ErrorCode
-    told count = host_answer (step t (Append f piece)) (Stat f.node) >>= (λ metadata. Ok (count, metadata))
+    modelled : ℕ → Result (ℕ × Metadata) ErrorCode
+    modelled count = host_answer (step t (Append f piece)) (Stat f.node) >>= (λ metadata. Ok (count, metadata))
 
-    by : (o : Option ErrorCode) → (unless o (length piece) >>= told) ≡ Ok reply
+    by : (o : Option ErrorCode) → (unless o (length piece) >>= modelled) ≡ Ok reply
         → reply ≡ (length piece, metadata_of (step t (Append f piece)) f.node)
     by None is =
         let looked = ap (λ m. m >>= (λ metadata. let r : Result (ℕ × Metadata) ErrorCode = Ok (length piece, metadata) in r))
@@ -117,7 +117,7 @@ module _ (f : OpenHandle) (piece : List ℕ) where
   refused_both t (inr (inr (is, rose))) = inr (inr (let same : _ ≡ Errno errnos.Io = (cc) in ap Err same, rose))
 
   -- it wasn't answered
-  pub behind_err : {rose : Type 0} {live : Handles} {w v : World} {e : P1Error}
+  pub behind_err : {rose : Type 0} {live : Handles} {w v : HostModel} {e : P1Error}
       → Makes rose live w v (Direct (Append f piece)) give (Err e)
       → Makes rose live w v (Behind f piece) (λ put. give (appended_in put)) (Err e)
   behind_err {rose} {w = w} {v = v} {e = e} made = record {
@@ -135,7 +135,7 @@ module _ (f : OpenHandle) (piece : List ℕ) where
 -- ---- and then the look
 
 -- what came of the two
-pub record Looked (live : Handles) (w v : World) (f : OpenHandle) (piece : List ℕ) (count : ℕ) : Type 0 where
+pub record Looked (live : Handles) (w v : HostModel) (f : OpenHandle) (piece : List ℕ) (count : ℕ) : Type 0 where
   pub keeps : (h : ℕ) → contains live h ≡ true → v.held h ≡ w.held h
   pub answered : host_answer w.tree (Append f piece) ≡ Ok count
   pub tree : v.tree ≡ step w.tree (Append f piece)
@@ -147,15 +147,15 @@ given (Err code) (inl is) = absurd (cc)
 given m (inr (inl is)) = absurd (cc)
 given m (inr (inr (is, rose))) = absurd (cc)
 
-module _ {rose : Type 0} {live mid new : Handles} {w u v : World} {h : ℕ} {piece : List ℕ} {count : ℕ}
+module _ {rose : Type 0} {live mid new : Handles} {w u v : HostModel} {h : ℕ} {piece : List ℕ} {count : ℕ}
     (held : contains live h ≡ true) (kept : mid ≡ live) (still : new ≡ mid)
     (first : Makes rose live w u (Direct (Append (w.held h) piece)) give (Ok count)) where
-  both : (result : Result Metadata HostError) → Told {A = Metadata} mid new u v (Stat (u.held h).node) (λ m. m) result
+  both : (result : Result Metadata HostError) → RefinesCall {A = Metadata} mid new u v (Stat (u.held h).node) (λ m. m) result
       → Looked live w v (w.held h) piece count
-  both result told =
+  both result modelled =
       let (reply, asked, is) = first.does in
       let same : reply ≡ count = (cc) in
-      let there = subst (λ (f : OpenHandle). Told {A = Metadata} mid new u v (Stat f.node) (λ m. m) result) (first.keeps h held) told in
+      let there = subst (λ (f : OpenHandle). RefinesCall {A = Metadata} mid new u v (Stat f.node) (λ m. m) result) (first.keeps h held) modelled in
       let looked = look (w.held h).node result there.after in
       let tree : v.tree ≡ step w.tree (Append (w.held h) piece) = looked.tree ∙ asked.tree in record {
         keeps = λ q live. keeps_all u v still there.keeps q (subst (λ s. contains s q ≡ true) (sym kept) live)
@@ -167,11 +167,11 @@ module _ {rose : Type 0} {live mid new : Handles} {w u v : World} {h : ℕ} {pie
       }
 
   pub behind_ok : {again : Type 0} {metadata : Metadata}
-      → Told {A = Metadata} mid new u v (Stat (u.held h).node) (λ m. m) (Ok metadata)
+      → RefinesCall {A = Metadata} mid new u v (Stat (u.held h).node) (λ m. m) (Ok metadata)
       → Makes again live w v (Behind (w.held h) piece) (λ put. give (appended_in put))
       (Ok (record { count = count; position = metadata.size }))
-  behind_ok {metadata = metadata} told =
-      let did = both (Ok metadata) told in record {
+  behind_ok {metadata = metadata} modelled =
+      let did = both (Ok metadata) modelled in record {
         keeps = did.keeps;
         does = (
           (count, metadata),
@@ -186,8 +186,8 @@ module _ {rose : Type 0} {live mid new : Handles} {w u v : World} {h : ℕ} {pie
       same : (reply : ℕ) × Asked rose w u (Direct (Append (w.held h) piece)) (Ok reply) × (give reply ≡ Ok count)
           → metadata ≡ metadata_of (step w.tree (Append (w.held h) piece)) n
       same (reply, asked, is) =
-          let there = subst (λ (f : OpenHandle). Told {A = Metadata} mid new u v (Stat f.node) (λ m. m) (Ok metadata))
-          (first.keeps h held) told in
+          let there = subst (λ (f : OpenHandle). RefinesCall {A = Metadata} mid new u v (Stat f.node) (λ m. m) (Ok metadata))
+          (first.keeps h held) modelled in
           let told_so = sym there.meaning ∙ ap (λ t. host_answer t (Stat n)) asked.tree ∙ seen _ n in (cc)
 
       replies : host_answer w.tree (Append (w.held h) piece) ≡ Ok count
@@ -197,9 +197,9 @@ module _ {rose : Type 0} {live mid new : Handles} {w u v : World} {h : ℕ} {pie
   -- the look wasn't answered, which no row refuses
   pub behind_unseen : {again : Type 0} {code : ErrorCode}
       → ((let r : Result Metadata HostError = Err (Code code) in r) ≡ Err (Code Io) → again)
-      → Told {A = Metadata} mid new u v (Stat (u.held h).node) (λ m. m) (Err (Code code))
+      → RefinesCall {A = Metadata} mid new u v (Stat (u.held h).node) (λ m. m) (Err (Code code))
       → Makes again live w v (Behind (w.held h) piece) (λ put. give (appended_in put)) (Err (Errno (errno_of code)))
-  behind_unseen {again} {code} io told = by code io told.meaning (both (Err (Code code)) told)
+  behind_unseen {again} {code} io modelled = by code io modelled.meaning (both (Err (Code code)) modelled)
     where
       by : (code : ErrorCode) → ((let r : Result Metadata HostError = Err (Code code) in r) ≡ Err (Code Io) → again)
           → MeansErr (host_answer u.tree (Stat (u.held h).node)) (Code code)

@@ -30,7 +30,7 @@ use Rattle.wasi_p1_types.specs.Guest.{GuestSlot, directory}
 use Rattle.wasi_p1_types.specs.CallResult.{CallResult}
 use Rattle.wasi_guest.specs.Records.{Found, read_on, bytes_in, text_from, text_in}
 use Rattle.wasi_guest.specs.declared.guest_error.GuestError.TheVariants as guests
-use Rattle.wasi_p1_types.specs.Parts.{range, from_guest, guest_fault}
+use Rattle.wasi_p1_types.specs.SpecParts.{range, from_guest, guest_fault}
 use Rattle.wasi_p1_types.specs.declared.error.P1Error.TheVariants.{Errno, Trap}
 use Rattle.wasi_p1_model.proofs.LocalCalls.{AreBytes}
 

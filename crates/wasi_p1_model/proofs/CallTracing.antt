@@ -1,6 +1,6 @@
 -- What a call adds to the look-ups, and the descriptors after it.
 use Rattle.std.proofs.Common.{ℕ, ◌≡◌, ◌≤◌, inl, inr, List, [], ◌∷◌, Some, Ok, arith, slice_get, slice_set, sym, subst}
-use Rattle.wasi_host.specs.Lineage.{HasProvenance, Only, OneOf, Nothing}
+use Rattle.wasi_host.specs.Provenance.{HasProvenance, Only, OneOf, Nothing}
 use Rattle.wasi_host.proofs.Tracing.{traced_none, traced_then, traced_given, traced_kept}
 use Rattle.wasi_host.specs.declared.lookup.Lookup.{Lookup}
 use Rattle.wasi_p1_types.specs.Numbering.{with_new}

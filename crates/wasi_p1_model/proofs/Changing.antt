@@ -22,7 +22,7 @@ use Rattle.wasi_p1_types.specs.Numbering.{last_where, free_number, live_count, p
 use Rattle.wasi_resolve.specs.PathRequest.{Opened}
 use Rattle.wasi_p1_types.specs.CallResult.{CallResult, give}
 use Rattle.wasi_p1_types.specs.Files.{file_in, read_place_in}
-use Rattle.wasi_p1_types.specs.Parts.{OpenNode, node_of, directory_or, from, source_in, into, sink_in, open_node_in, new_guest_slot, room_for, with_file, live_in}
+use Rattle.wasi_p1_types.specs.SpecParts.{OpenNode, node_of, directory_or, from, read_target_in, into, write_target_in, open_node_in, new_guest_slot, room_for, with_file, live_in}
 use Rattle.wasi_guest.specs.declared.answer.TrapKind.TheVariants.{TableFull}
 use Rattle.wasi_p1_types.specs.declared.error.P1Error.TheVariants.{Trap}
 use Rattle.wasi_p1_types.specs.declared.slots.FileModes.{FileModes}
@@ -35,7 +35,7 @@ use Rattle.wasi_p1_model.proofs.LocalCalls.{Ends, Has, IsNamed, KeepsSlots, Stay
 use Rattle.wasi_p1_model.proofs.Bytes.{put_bytes}
 use Rattle.wasi_p1_model.proofs.Numbers.{all_live, last_passes}
 use Rattle.wasi_p1_types.proofs.Wanting.{Never}
-use Rattle.wasi_p1_model.proofs.RowEnds.{with_slots, with_text, with_filestat}
+use Rattle.wasi_p1_model.proofs.SpecEnds.{with_slots, with_text, with_filestat}
 use Rattle.wasi_p1_model.specs.Calls.{Stem, itself, through, descriptors_named}
 
 -- ---- the node of a descriptor that a number names
@@ -118,12 +118,12 @@ read_place_is {f} slots table_max p is = by (file_in ReadAt p) refl is
     by (Err e) at is = absurd (cc)
 
 -- what is read from, or written into, a file is a file
-pub source_is : {f : OpenFile} (p : Option GuestSlot) → source_in p ≡ Ok (from f) → p ≡ Some (file f)
+pub source_is : {f : OpenFile} (p : Option GuestSlot) → read_target_in p ≡ Ok (from f) → p ≡ Some (file f)
 source_is {f} (Some (file x)) is = let same : x ≡ f = (cc) in ap (λ y. Some (file y)) same
 source_is (Some (stream streams.Input)) is = absurd (cc)
 source_is p is = absurd (cc)
 
-pub sink_is : {f : OpenFile} (p : Option GuestSlot) → sink_in p ≡ Ok (into f) → p ≡ Some (file f)
+pub sink_is : {f : OpenFile} (p : Option GuestSlot) → write_target_in p ≡ Ok (into f) → p ≡ Some (file f)
 sink_is {f} (Some (file x)) is = let same : x ≡ f = (cc) in ap (λ y. Some (file y)) same
 sink_is (Some (stream streams.Input)) is = absurd (cc)
 sink_is p is = absurd (cc)

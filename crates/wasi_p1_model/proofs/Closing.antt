@@ -8,7 +8,7 @@ use Rattle.wasi_guest.specs.declared.call.Call.TheVariants as calls
 use Rattle.wasi_p1_types.specs.Front.{with_fuel}
 use Rattle.wasi_p1_types.specs.Guest.{GuestSlot, State, closed, perms_in}
 use Rattle.wasi_p1_types.specs.Numbering.{renumbered}
-use Rattle.wasi_p1_types.specs.Parts.{live_in}
+use Rattle.wasi_p1_types.specs.SpecParts.{live_in}
 use Rattle.wasi_p1_types.specs.CallResult.{CallResult}
 use Rattle.wasi_p1_model.specs.Calls.{fd_close, fd_renumber, turn}
 use Rattle.wasi_p1_model.specs.Trace.{TraceStep, Played, Faulted, Gives, answer_of}

@@ -1,10 +1,10 @@
 -- A valid call is answered, unless memory was wanted or the host failed.
 use Rattle.std.proofs.Common.{ℕ, ◌≡◌, ◌⊎◌, inl, inr, List, ap, sym, subst, Result, Ok, Err}
 use Rattle.std.specs.Prelude.{All, IsTrue, is_ok}
-use Rattle.wasi_host.specs.HostLaws.{World}
+use Rattle.wasi_host.specs.HostLaws.{HostModel}
 use Rattle.wasi_guest.specs.declared.answer.Answer.{Answer}
 use Rattle.wasi_guest.specs.declared.answer.Value.{Value}
-use Rattle.wasi_p1_model.specs.CallTransition.{Turns, IsAnswered, IsValidCall, in_world}
+use Rattle.wasi_p1_model.specs.CallTransition.{Turns, IsAnswered, IsValidCall, in_model}
 use Rattle.wasi_p1_types.specs.Front.{FueledCall}
 use Rattle.wasi_p1_types.specs.Guest.{Guest, State}
 use Rattle.wasi_p1_types.specs.CallResult.{CallResult}
@@ -19,12 +19,12 @@ refuses : {e : P1Error} {P : Type 0} (m : CallResult (Value × State)) → m ≡
 refuses (Ok p) is valid = absurd (cc)
 refuses (Err e) is valid = absurd (cc)
 
-pub turn_completes : {rose : Type 0} {w v : World} {g g' : Guest} {call : FueledCall} (result : Result Value P1Error)
+pub turn_completes : {rose : Type 0} {w v : HostModel} {g g' : Guest} {call : FueledCall} (result : Result Value P1Error)
     → Turns rose w v g g' call result → (result ≡ Err Memory → IsTrue (may_run_out_of_memory call.call)) → (rose → ⊥)
-    → IsValidCall (in_world w g) call → IsAnswered call.call result
+    → IsValidCall (in_model w g) call → IsAnswered call.call result
 turn_completes (Ok x) did wants never valid = tt
 turn_completes {w = w} {g = g} {call = call} (Err e) did wants never valid = elim did.turn [
-  | inl refused ↦ refuses (turn (in_world w g) call) refused.row_is valid
+  | inl refused ↦ refuses (turn (in_model w g) call) refused.spec_is valid
   | inr (inl wanted) ↦ (wanted.memory, wants (ap Err wanted.memory))
   | inr (inr failed) ↦ absurd (never failed.count)
 ]

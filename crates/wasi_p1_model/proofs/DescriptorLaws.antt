@@ -14,7 +14,7 @@ use Rattle.wasi_p1_model.specs.DescriptorLaws.{IsLiveNumber, IsClosedNumber, Num
 use Rattle.wasi_p1_types.specs.Files.{base_in, file_in, position_from, read_place_in, sought}
 use Rattle.wasi_p1_types.specs.Guest.{Guest, GuestSlot, OpenFile, State, closed, stream, directory, file, is_closed, new_number}
 use Rattle.wasi_p1_types.specs.Numbering.{last_where, later_or_here, free_number}
-use Rattle.wasi_p1_types.specs.Parts.{directory_in, range, room_for, permit, may_write, held_by, at_position, with_file}
+use Rattle.wasi_p1_types.specs.SpecParts.{directory_in, range, room_for, permit, may_write, held_by, at_position, with_file}
 use Rattle.wasi_p1_types.specs.RawFlags.{open_how, or_inval}
 use Rattle.wasi_p1_model.specs.Putting.{count_in, put_call}
 use Rattle.wasi_p1_types.specs.Quotas.{allowance}
@@ -22,7 +22,7 @@ use Rattle.wasi_p1_types.specs.Request.{Path, Direct}
 use Rattle.wasi_p1_types.specs.CallResult.{CallResult, give}
 use Rattle.wasi_p1_model.specs.Calls.{fd_pread, fd_pwrite, fd_seek, fd_tell, path_open, seek_from}
 use Rattle.wasi_p1_types.specs.declared.usage.FileUse.TheVariants.{Position, WriteAt}
-use Rattle.wasi_p1_model.proofs.Alike.{row_on}
+use Rattle.wasi_p1_model.proofs.Alike.{spec_on}
 use Rattle.wasi_p1_model.proofs.Changing.{file_is}
 use Rattle.wasi_p1_model.proofs.Moving.{gave, gave_buffer, gave_text, replied_by}
 use Rattle.wasi_p1_model.proofs.Spending.{answer_is, gave_growing, gave_making}
@@ -124,7 +124,7 @@ opens_the_largest_closed s s' x fuel fd dirflags path path_len oflags base inher
 
 -- what a number stands for is a file at this position
 told_there : (s : State) (fuel fd position : ℕ) {f : OpenFile} → slice_get s.guest.slots fd ≡ Some (file f)
-    → f.position ≡ position → row_on s.tree (fd_tell s.guest fd fuel).0 ≡ Ok (Number position, s)
+    → f.position ≡ position → spec_on s.tree (fd_tell s.guest fd fuel).0 ≡ Ok (Number position, s)
 unfolding fd_tell
 told_there s fuel fd position is same = rw (is, same) refl
 
@@ -141,29 +141,29 @@ seeks_are_told s s' x fuel again fd whence offset is =
     let (f, named, two) = gave s.tree (file_in Position (slice_get s.guest.slots fd)) _ fuel one in
     by f (file_is Position _ named) (base_in f.position place) two
   where
-    told : (f : OpenFile) (position : ℕ) → slice_get s.guest.slots fd ≡ Some (file f) → x ≡ Number position
+    modelled : (f : OpenFile) (position : ℕ) → slice_get s.guest.slots fd ≡ Some (file f) → x ≡ Number position
         → s' ≡ record { tree = s'.tree; guest = with_file s.guest fd (at_position f position) }
-        → row_on s'.tree (fd_tell s'.guest fd again).0 ≡ Ok (x, s')
-    told f position at answered after =
+        → spec_on s'.tree (fd_tell s'.guest fd again).0 ≡ Ok (x, s')
+    modelled f position at answered after =
         told_there s' again fd position (ap (λ (t : State). slice_get t.guest.slots fd) after
         ∙ put_there s.guest.slots fd (file (at_position f position)) at) refl
         ∙ ap (λ y. Ok (y, s')) (sym answered)
 
     sought_so : (f : OpenFile) (m : CallResult ℕ) → slice_get s.guest.slots fd ≡ Some (file f)
         → (m >>= (λ position. give (sought s.guest fd f position))) ≡ Ok (x, s'.guest)
-        → row_on s'.tree (fd_tell s'.guest fd again).0 ≡ Ok (x, s')
+        → spec_on s'.tree (fd_tell s'.guest fd again).0 ≡ Ok (x, s')
     sought_so f (Ok position) at gives =
         let same = answer_is gives in
-        told f position at same.0 (λ i. record { tree = s'.tree; guest = same.1 i })
+        modelled f position at same.0 (λ i. record { tree = s'.tree; guest = same.1 i })
     sought_so f (Err e) at gives = absurd (cc)
 
     by : (f : OpenFile) → slice_get s.guest.slots fd ≡ Some (file f) → (base : Option ℕ)
-        → row_on s.tree (seek_from s.guest fd f offset base fuel).0 ≡ Ok (x, s')
-        → row_on s'.tree (fd_tell s'.guest fd again).0 ≡ Ok (x, s')
+        → spec_on s.tree (seek_from s.guest fd f offset base fuel).0 ≡ Ok (x, s')
+        → spec_on s'.tree (fd_tell s'.guest fd again).0 ≡ Ok (x, s')
     by f at (Some base) is =
         let (position, found, three) = gave s.tree (position_from base offset) _ fuel is in
         let (answered, after) = state_is three in
-        told f position at answered (λ i. record { tree = s'.tree; guest = (ap (λ (t : State). t.guest) after) i })
+        modelled f position at answered (λ i. record { tree = s'.tree; guest = (ap (λ (t : State). t.guest) after) i })
     by f at None is =
         let did = replied_by s.tree (Direct (Stat f.node)) _ is in
         sought_so f (position_from did.reply.size offset) at did.gives

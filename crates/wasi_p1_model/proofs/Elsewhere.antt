@@ -8,7 +8,7 @@ use Rattle.wasi_host.specs.Options.{Options}
 use Rattle.wasi_host.specs.Tree.{Tree, Node, Nodes, Content, node_at, next_of, bytes_of, child, hold_one, is_directory, stray}
 use Rattle.wasi_host.specs.Agree.{IsClosed}
 use Rattle.wasi_host.specs.HostCall.{HostCall, OpenAt, StatAt, ReadLinkAt, MakeDirAt, SymlinkAt, LinkAt, RenameAt, UnlinkAt, RemoveDirAt, TimesAt, Access, Stat, SetTimes, Pread, Pwrite, Append, SetSize, Sync, Advise, Flags, ListDir, Dup, Close}
-use Rattle.wasi_host.specs.Refusal.{refusal, naming_rows, renaming_rows}
+use Rattle.wasi_host.specs.Refusal.{refusal, naming_rules, renaming_rules}
 use Rattle.wasi_host.specs.Answer.{HostAnswer, host_answer}
 use Rattle.wasi_host.specs.Step.{step, with_nodes, with_content, content_changed, entry_changed, with_entry, without_entry, with_name, without_name, node_made, new_file, new_directory, new_link, other_bytes, with_size, is_cut, file_cut, opened_step, open_step, with_piece, write_step, one_name_more, added_step, link_step, one_name_less, made_gone, dropped_step, unlink_step, remove_step, name_lost, name_taken, name_moved_onto, moved_step, rename_step, with_times, times_set, times_set_if, times_step, starts_of}
 use Rattle.wasi_host.specs.Steps.{◌>>=◌}
@@ -23,10 +23,10 @@ use Rattle.wasi_host.proofs.Refusals.{free_of, none_refuses}
 use Rattle.wasi_host.proofs.ValidSteps.{has_bytes, can_open, can_make_directory, can_make_link, can_add, can_rename, can_unlink, can_remove}
 use Rattle.wasi_resolve.specs.Laws.{GivesIn}
 use Rattle.wasi_resolve.specs.EntryOps as at_place
-use Rattle.wasi_resolve.specs.EntryOps.{EntryOp, PlaceAnswer, CreateDir, RemoveFile, RemoveDir, Symlink, ReadLink, call_at, answer_in, place_text, place_for, step_in}
+use Rattle.wasi_resolve.specs.EntryOps.{EntryOp, EntryAnswer, CreateDir, RemoveFile, RemoveDir, Symlink, ReadLink, call_at, answer_in, place_text, place_for, step_in}
 use Rattle.wasi_resolve.specs.TwoPathOps.{TwoPathOp, HardLink, Rename, Places, text_for, asks_directory, answer_at_two, step_at_two}
 use Rattle.wasi_resolve.specs.Paths.{Opening, Place, opening, step_of, place, timed}
-use Rattle.wasi_resolve.specs.PathRequest.{PathRequest, OpenPath, LookPath, AtPlace, TimesPath, AtTwo, PathReply, Opened, answer_at, as_asked, times_through, path_reply, path_after, path_starts}
+use Rattle.wasi_resolve.specs.PathRequest.{PathRequest, OpenPath, LookPath, AtEntry, TimesPath, AtTwo, PathReply, Opened, answer_at, as_asked, times_through, path_reply, path_after, path_starts}
 use Rattle.wasi_resolve.proofs.PathAgreeing as paths
 use Rattle.wasi_resolve.proofs.Requests.{as_opened, from_two}
 use Rattle.wasi_resolve.proofs.WalkAgreeing.{from_one}
@@ -173,8 +173,8 @@ module _ {Seen : ℕ → Type 0} {t : Tree} (closed : IsClosed Seen t) where
       → StaysOr Seen t (rename_step t old old_name new new_name)
   unfolding refusal
   rename_stays old old_name new new_name requires_dir seen near none =
-      let rows = none_refuses (naming_rows t old old_name new new_name requires_dir)
-      (renaming_rows t old new (child t old old_name) (child t new new_name)) none in
+      let rows = none_refuses (naming_rules t old old_name new new_name requires_dir)
+      (renaming_rules t old new (child t old old_name) (child t new new_name)) none in
       let can = can_rename t old old_name new new_name requires_dir rows.0 in
       renamed_stays old old_name new new_name seen near can.old_directory can.looks.directory
 
@@ -226,7 +226,7 @@ module _ {Seen : ℕ → Type 0} {t : Tree} (closed : IsClosed Seen t) where
 
   -- ---- through a path
 
-  place_stays : (what : EntryOp) (m : Result Place ErrorCode) {reply : PlaceAnswer what}
+  place_stays : (what : EntryOp) (m : Result Place ErrorCode) {reply : EntryAnswer what}
       → GivesIn Seen (λ (p : Place). p.directory) m → (m >>= answer_in t what) ≡ Ok reply
       → StaysOr Seen t (step_in t what m)
   place_stays CreateDir (Ok p) seen is = answered_stays (call_at CreateDir p) (from_one Seen seen) is
@@ -238,7 +238,7 @@ module _ {Seen : ℕ → Type 0} {t : Tree} (closed : IsClosed Seen t) where
       answered_stays (call_at (at_place.SetTimes atime mtime) p) (from_one Seen seen) is
   place_stays what (Err code) seen is = all_stay
 
-  done_stays : (s : ℕ) (text : List ℕ) (what : EntryOp) {reply : PlaceAnswer what} → Seen s
+  done_stays : (s : ℕ) (text : List ℕ) (what : EntryOp) {reply : EntryAnswer what} → Seen s
       → (place_for t s text what >>= answer_in t what) ≡ Ok reply
       → StaysOr Seen t (step_in t what (place_for t s text what))
   done_stays s text what seen is =
@@ -275,7 +275,7 @@ module _ {Seen : ℕ → Type 0} {t : Tree} (closed : IsClosed Seen t) where
       opening_stays directory (opening t s text o follow)
       (paths.opening_seen closed itself s text o follow (from s (Contains-here s []))) is
   path_stays (LookPath s text follow) reply from is = all_stay
-  path_stays (AtPlace s text what) reply from is = done_stays s text what (from s (Contains-here s [])) is
+  path_stays (AtEntry s text what) reply from is = done_stays s text what (from s (Contains-here s [])) is
   path_stays (TimesPath s text true atime mtime) reply from is =
       timed_stays atime mtime (timed t s text) (paths.timed_seen closed itself s text (from s (Contains-here s [])))
   path_stays (TimesPath s text false atime mtime) reply from is =

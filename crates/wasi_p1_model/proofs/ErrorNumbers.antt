@@ -2,19 +2,19 @@
 use Rattle.std.proofs.Common.{ℕ, ◌≡◌, ◌⊎◌, inl, inr, List, refl, sym, subst, Option, Some, Result, Ok, Err}
 use Rattle.std.specs.Prelude.{All, IfSome}
 use Rattle.std.proofs.lemmas.List.Elements.{All-map}
-use Rattle.wasi_host.specs.HostLaws.{FaultCount, World}
+use Rattle.wasi_host.specs.HostLaws.{FaultCount, HostModel}
 use Rattle.wasi_host.specs.Tree.{Nodes, Tree}
 use Rattle.wasi_host.specs.declared.errors.ErrorCode.{ErrorCode}
 use Rattle.wasi_guest.specs.declared.answer.Answer.{Answer}
 use Rattle.wasi_guest.specs.declared.answer.Value.{Value}
 use Rattle.wasi_guest.specs.declared.call.Call.{Call}
-use Rattle.wasi_p1_model.specs.CallTransition.{Turns, in_world}
+use Rattle.wasi_p1_model.specs.CallTransition.{Turns, in_model}
 use Rattle.wasi_p1_types.specs.ErrorNumbers.{MayCome}
 use Rattle.wasi_p1_types.specs.Front.{FueledCall}
 use Rattle.wasi_p1_types.specs.Guest.{Guest, State}
 use Rattle.wasi_p1_types.specs.Request.{Reply, after, reply_of}
-use Rattle.wasi_p1_types.specs.CallResult.{CallResult, Program, asking, done, row_on}
-use Rattle.wasi_p1_model.specs.Calls.{row, turn}
+use Rattle.wasi_p1_types.specs.CallResult.{CallResult, Program, asking, done, spec_on}
+use Rattle.wasi_p1_model.specs.Calls.{call_spec, turn}
 use Rattle.wasi_p1_model.specs.Trace.{RefinesTrace, Faulted, Gives, Played, Trace, TraceStep, answer_of, answers_of}
 use Rattle.wasi_p1_types.specs.declared.error.P1Error.{P1Error}
 use Rattle.wasi_p1_types.specs.declared.error.P1Error.TheVariants.{Errno, Trap, Exit, Memory}
@@ -22,7 +22,7 @@ use Rattle.wasi_p1_model.proofs.Alike.{over, replied}
 use Rattle.wasi_p1_types.proofs.Codes.{Knows, reply_known}
 use Rattle.wasi_p1_model.proofs.Moving.{each_turn}
 use Rattle.wasi_p1_model.proofs.LocalCalls.{Ends, IsLocal}
-use Rattle.wasi_p1_model.proofs.Locality.{row_near}
+use Rattle.wasi_p1_model.proofs.Locality.{spec_near}
 use Rattle.wasi_p1_types.proofs.Wanting.{IsRefusal, Never}
 
 -- ---- of a row over a tree
@@ -35,18 +35,18 @@ ends_never : (undone : Type 0) (m : CallResult (Value × Guest)) → Ends undone
 ends_never undone (Ok p) ends = tt
 ends_never undone (Err e) ends = ends.0
 
-row_never : (g : Guest) (call : Call) (t : Tree) (m : CallResult (Program (Value × Guest))) → IsLocal g call m
-    → Never (row_on t m)
-row_never g call t (Ok (done p)) near = tt
-row_never g call t (Ok (asking r next)) near = by (reply_of t r) refl (reply_known t r)
+spec_never : (g : Guest) (call : Call) (t : Tree) (m : CallResult (Program (Value × Guest))) → IsLocal g call m
+    → Never (spec_on t m)
+spec_never g call t (Ok (done p)) near = tt
+spec_never g call t (Ok (asking r next)) near = by (reply_of t r) refl (reply_known t r)
   where
     by : (a : Result (Reply r) ErrorCode) → reply_of t r ≡ a → Knows a → Never (replied t r next a)
     by (Ok reply) is known = over_never (after t r) (next reply) (ends_never (after t r ≡ t) (next reply) (near.ends t reply is))
     by (Err code) is known = known
-row_never g call t (Err e) near = near
+spec_never g call t (Err e) near = near
 
 turn_never : (s : State) (call : FueledCall) → Never (turn s call)
-turn_never s call = row_never s.guest call.call s.tree (row s.guest call) (row_near s.guest call)
+turn_never s call = spec_never s.guest call.call s.tree (call_spec s.guest call) (spec_near s.guest call)
 
 -- ---- of an answer
 
@@ -56,11 +56,11 @@ refusal_comes (Trap kind) refuses = tt
 refusal_comes (Exit status) refuses = tt
 refusal_comes Memory refuses = tt
 
-pub turn_errnos : {rose : Type 0} {w v : World} {g g' : Guest} {call : FueledCall} (result : Result Value P1Error)
+pub turn_errnos : {rose : Type 0} {w v : HostModel} {g g' : Guest} {call : FueledCall} (result : Result Value P1Error)
     → Turns rose w v g g' call result → IfSome (answer_of result) MayCome
 turn_errnos (Ok x) did = tt
 turn_errnos {w = w} {g = g} {call = call} (Err e) did = elim did.turn [
-  | inl refused ↦ refusal_comes e (subst Never refused.row_is (turn_never (in_world w g) call))
+  | inl refused ↦ refusal_comes e (subst Never refused.spec_is (turn_never (in_model w g) call))
   | inr (inl wanted) ↦ subst (λ e. IfSome (answer_of (Err e)) MayCome) (sym wanted.memory) tt
   | inr (inr failed) ↦ subst (λ e. IfSome (answer_of (Err e)) MayCome) (sym failed.io) refl
 ]

@@ -2,14 +2,14 @@
 use Rattle.std.proofs.Common.{ℕ, ◌+◌, ◌≤◌, List, [], ◌∷◌, ◌≡◌, true, slice_get, slice_set, refl, ap, sym, subst, ◌∙◌, arith, Option, Ok, Some, None}
 use Rattle.std.proofs.lemmas.List.{map-set}
 use Rattle.std.specs.FinSet.{contains}
-use Rattle.wasi_host.specs.HostLaws.{World, Handles}
+use Rattle.wasi_host.specs.HostLaws.{HostModel, Handles}
 use Rattle.wasi_host.specs.declared.open_handle.OpenHandle.{OpenHandle}
 use Rattle.wasi_p1_types.specs.Numbering.{free_number, with_new, live_count}
 use Rattle.wasi_p1_types.specs.Slots.{is_closed_slot, slot_of}
 use Rattle.wasi_p1_types.specs.Guest.{GuestSlot, guest_slot, guest_slots, directory_by, file_by, is_closed, new_number, with_guest_slot, directory, file}
 use Rattle.wasi_p1_model.specs.Owners.{handle_in, handles, uses_in, uses, without, Owned}
 use Rattle.wasi_p1_types.specs.CallParts.{Rests, Stays}
-use Rattle.wasi_p1_types.specs.Parts.{new_guest_slot, opened_among}
+use Rattle.wasi_p1_types.specs.SpecParts.{new_guest_slot, opened_among}
 use Rattle.wasi_fs.specs.Calls.{perms_of, open_mode_of, opened_of}
 use Rattle.wasi_fs.specs.declared.descriptor.Descriptor.{Descriptor}
 use Rattle.wasi_fs.specs.declared.descriptor.Descriptor.TheVariants as descriptors
@@ -64,7 +64,7 @@ put_file_at stands again table now fd f put e kept =
 -- ---- a handle that is closed
 
 -- descriptors that own what is still live stand for the same
-pub released_stays : {live live' : Handles} {w v : World} (o : Option ℕ) (table : List Slot) → live' ≡ without live o
+pub released_stays : {live live' : Handles} {w v : HostModel} (o : Option ℕ) (table : List Slot) → live' ≡ without live o
     → Owned live' (handles table) → Rests live live' w v → Stays w v table
 released_stays {live} o table gone owned rests = record {
   tree = rests.tree;
@@ -74,7 +74,7 @@ released_stays {live} o table gone owned rests = record {
 }
 
 -- where a number became closed
-pub closed_stays : {live live' : Handles} {w v : World} {slot : Slot} (table : List Slot) (i : ℕ)
+pub closed_stays : {live live' : Handles} {w v : HostModel} {slot : Slot} (table : List Slot) (i : ℕ)
     → slice_get table i ≡ Some slot → live' ≡ without live (handle_in slot) → Owned live (handles table)
     → Rests live live' w v → Stays w v (slice_set table i slots.Closed)
 closed_stays {slot = slot} table i is gone owned rests =

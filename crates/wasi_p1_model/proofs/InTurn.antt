@@ -65,13 +65,13 @@ none_until {old = old} {before = before} = record {
   memory = before;
   did = (refl, refl);
   wanted = inr (refl, refl, refl);
-  stands = record { kept = record { slots = refl; table_max = refl; holdings = refl; memory = refl }; tree = λ told. refl };
+  stands = record { kept = record { slots = refl; table_max = refl; holdings = refl; memory = refl }; tree = λ modelled. refl };
 }
 
 -- a call that wanted memory leaves all as it was
 wanting_stands : {H : Type 0} {host : Ghosts H} {fuel : ℕ} {now next : View H} {memory after : List ℕ} {call : Call}
-    → DoesCall host fuel now next memory after call (Err Memory) → AsBefore host.told host.world now next memory after
-wanting_stands does = any_fuel (leaves_all (Err Memory) does.row (λ is. absurd (cc)))
+    → DoesCall host fuel now next memory after call (Err Memory) → AsBefore host.modelled host.model now next memory after
+wanting_stands does = any_fuel (leaves_all (Err Memory) does.call_spec (λ is. absurd (cc)))
 
 -- the next call wanted it
 pub done_until : {H : Type 0} {host : Ghosts H} {fuel : ℕ} {old now next : View H} {before memory after : List ℕ}

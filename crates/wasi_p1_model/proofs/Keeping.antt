@@ -15,11 +15,11 @@ use Rattle.wasi_fs.specs.OpenHow.{OpenHow, may_open, options_of}
 use Rattle.wasi_resolve.specs.Walk.{Open, Outcome, Stop, Name, Dot, walk, last_options}
 use Rattle.wasi_resolve.specs.EntryOps.{ReadLink, place_for, step_in}
 use Rattle.wasi_resolve.specs.Paths.{Opening, Place, opening_of, opening, step_of}
-use Rattle.wasi_resolve.specs.PathRequest.{AtPlace, Opened, answer_at, as_asked}
+use Rattle.wasi_resolve.specs.PathRequest.{AtEntry, Opened, answer_at, as_asked}
 use Rattle.wasi_resolve.proofs.Requests.{as_opened}
 use Rattle.wasi_resolve.proofs.Tables.{open_leaves}
 use Rattle.wasi_p1_types.specs.Request.{Path, reply_of, after as tree_after}
-use Rattle.wasi_p1_types.specs.Parts.{permit, may_write}
+use Rattle.wasi_p1_types.specs.SpecParts.{permit, may_write}
 
 -- ---- an open that neither makes nor cuts
 
@@ -113,7 +113,7 @@ no_move old new may is = absurd (cc)
 -- ---- the text of a link
 
 -- it is read without a step
-pub link_leaves : (t : Tree) (d : ℕ) (text : List ℕ) → tree_after t (Path (AtPlace d text ReadLink)) ≡ t
+pub link_leaves : (t : Tree) (d : ℕ) (text : List ℕ) → tree_after t (Path (AtEntry d text ReadLink)) ≡ t
 link_leaves t d text = by (place_for t d text ReadLink)
   where
     by : (m : Result Place ErrorCode) → step_in t ReadLink m ≡ t

@@ -31,14 +31,14 @@ bounded_by t limit w reply is =
     by : (above : Bool) (m : Result (Reply w) ErrorCode) → is_above limit (growth_at t limit w) ≡ above
         → reply_of t w ≡ m → (reply : Option (ℕ × Reply w)) → grown_reply above (growth_at t limit w) m ≡ Ok reply
         → IsBounded t limit w reply
-    by true m above told None is = record { above = above; leaves = ap (λ b. cond b t (after t w)) above }
-    by true m above told (Some grown) is = absurd (cc)
-    by false (Ok x) above told None is = absurd (cc)
-    by false (Ok x) above told (Some grown) is =
+    by true m above modelled None is = record { above = above; leaves = ap (λ b. cond b t (after t w)) above }
+    by true m above modelled (Some grown) is = absurd (cc)
+    by false (Ok x) above modelled None is = absurd (cc)
+    by false (Ok x) above modelled (Some grown) is =
         let same : ◌≡◌ {A = ℕ × Reply w} (growth_at t limit w, x) grown = (cc) in record {
           within = above;
           growth = ap (λ (p : ℕ × Reply w). p.0) (sym same);
-          is = told ∙ ap (λ (p : ℕ × Reply w). let r : Result (Reply w) ErrorCode = Ok p.1 in r) same;
+          is = modelled ∙ ap (λ (p : ℕ × Reply w). let r : Result (Reply w) ErrorCode = Ok p.1 in r) same;
           does = ap (λ b. cond b t (after t w)) above;
         }
-    by false (Err code) above told reply is = absurd (cc)
+    by false (Err code) above modelled reply is = absurd (cc)

@@ -5,7 +5,7 @@ use Rattle.std.specs.Prelude.{IsTrue, if◌then◌else◌}
 use Rattle.wasi_host.specs.Agree.{Touches}
 use Rattle.wasi_host.specs.Answer.{host_answer, metadata_of}
 use Rattle.wasi_host.specs.HostCall.{Stat}
-use Rattle.wasi_host.specs.HostLaws.{World, Handles}
+use Rattle.wasi_host.specs.HostLaws.{HostModel, Handles}
 use Rattle.wasi_host.specs.Steps.{◌>>=◌}
 use Rattle.wasi_host.specs.Tree.{Tree, Nodes, next_of}
 use Rattle.wasi_host.specs.declared.errors.ErrorCode.{ErrorCode}
@@ -26,7 +26,7 @@ use Rattle.wasi_p1_types.specs.declared.error.P1Error.{P1Error}
 use Rattle.wasi_p1_types.specs.declared.error.P1Error.TheVariants.{Errno, Memory}
 use Rattle.wasi_p1_types.specs.declared.quotas.Allowance.{Allowance}
 use Rattle.wasi_p1_types.specs.declared.quotas.FileEnd.{FileEnd}
-use Rattle.wasi_p1_model.proofs.RowEnds.{tail}
+use Rattle.wasi_p1_model.proofs.SpecEnds.{tail}
 use Rattle.wasi_p1_model.proofs.Appending.{seen}
 
 -- ---- makings
@@ -95,13 +95,13 @@ pub record IsWriting (w : Request) : Type 0 where
   pub alone : (t : Tree) → growth_in t w ≡ 0
 
 -- what the check of the growth gave: without a bound nothing was asked; else the file was looked at
-pub record ChecksGrowth {H : Type 0} (told : Bool) (world : H → World) (rose : Type 0) (live : Handles) (old new : H)
+pub record ChecksGrowth {H : Type 0} (modelled : Bool) (model : H → HostModel) (rose : Type 0) (live : Handles) (old new : H)
     (limit : Option Allowance) (n : ℕ) (end : FileEnd) (result : CallResult ℕ) : Type 0 where
   pub unbound : limit ≡ None → (result ≡ Ok 0) × (new ≡ old)
   pub front : (l : Allowance) → limit ≡ Some l
       → IsReplied (Direct (Stat n)) (λ metadata. growth_from l end metadata.size) result
-  pub tells : IsTrue told → (l : Allowance) → limit ≡ Some l
-      → Makes rose live (world old) (world new) (Direct (Stat n)) (λ metadata. growth_from l end metadata.size) result
+  pub tells : IsTrue modelled → (l : Allowance) → limit ≡ Some l
+      → Makes rose live (model old) (model new) (Direct (Stat n)) (λ metadata. growth_from l end metadata.size) result
 
 -- what was reckoned of a size
 pub reckoned : {result : CallResult ℕ} (l : Allowance) (end : FileEnd) (size : ℕ) → growth_from l end size ≡ result
@@ -138,7 +138,7 @@ on_any {t} {u} {t'} {roots} same touches = record {
 
 looked : {rose : Type 0} {metadata : Metadata} (t : Tree) (n : ℕ)
     → GivesOrElse rose (Ok metadata) (from_host (host_answer t (Stat n))) → metadata ≡ metadata_of t n
-looked t n (inl is) = let told = is ∙ ap from_host (seen t n) in (cc)
+looked t n (inl is) = let modelled = is ∙ ap from_host (seen t n) in (cc)
 looked t n (inr (inl is)) = absurd (cc)
 looked t n (inr (inr (is, rose))) = absurd (cc)
 
@@ -149,14 +149,14 @@ answered_so m (inr (inl is)) = absurd (cc)
 answered_so m (inr (inr (is, rose))) = absurd (cc)
 
 -- what the host's look gave, where the growth was let through
-pub record Reckons (live : Handles) (w u : World) (l : Allowance) (n : ℕ) (end : FileEnd) (growth : ℕ) : Type 0 where
+pub record Reckons (live : Handles) (w u : HostModel) (l : Allowance) (n : ℕ) (end : FileEnd) (growth : ℕ) : Type 0 where
   pub keeps : (h : ℕ) → contains live h ≡ true → u.held h ≡ w.held h
   pub tree : u.tree ≡ w.tree
   pub touched : Touches w.tree u.tree (n ∷ []) (n ∷ []) w.touched u.touched
   pub below : is_above l (growth_within l end (size_at w.tree n)) ≡ false
   pub is : growth ≡ growth_within l end (size_at w.tree n)
 
-pub reckons : {rose : Type 0} {live : Handles} {w u : World} {n growth : ℕ} (l : Allowance) (end : FileEnd)
+pub reckons : {rose : Type 0} {live : Handles} {w u : HostModel} {n growth : ℕ} (l : Allowance) (end : FileEnd)
     → Makes rose live w u (Direct (Stat n)) (λ metadata. growth_from l end metadata.size) (Ok growth)
     → Reckons live w u l n end growth
 reckons {w = w} {u = u} {n = n} {growth = growth} l end makes =
@@ -181,12 +181,12 @@ touches_both {b = b} first second = record {
 }
 
 -- a fault that rose in a part of it rose in all of it
-rises_in : {A rose all : Type 0} {result row : CallResult A} → (rose → all) → GivesOrElse rose result row → GivesOrElse all result row
+rises_in : {A rose all : Type 0} {result call_spec : CallResult A} → (rose → all) → GivesOrElse rose result call_spec → GivesOrElse all result call_spec
 rises_in rises (inl is) = inl is
 rises_in rises (inr (inl is)) = inr (inl is)
 rises_in rises (inr (inr (is, up))) = inr (inr (is, rises up))
 
-asked_all : {rose all : Type 0} {w v : World} {r : Request} {result : CallResult (Reply r)} → (rose → all) → Asked rose w v r result
+asked_all : {rose all : Type 0} {w v : HostModel} {r : Request} {result : CallResult (Reply r)} → (rose → all) → Asked rose w v r result
     → Asked all w v r result
 asked_all rises asked = record { reply = rises_in rises asked.reply; tree = asked.tree; touched = asked.touched }
 
@@ -208,8 +208,8 @@ module _ (t : Tree) (l : Allowance) (w : Request) (below : is_above l (growth_at
       by (Err code) is = let same : e ≡ Errno (errno_of code) = (cc) in ap Err same
 
 -- the look, and then the request over the tree that it left, are the growth
-module _ {rose all : Type 0} {live : Handles} {w u : World} {l : Allowance} {r : Request} {growth : ℕ} (writes : IsWriting r)
-    (first : Reckons live w u l (written_by r) (end_after r) growth) (rises : rose → all) (v : World) where
+module _ {rose all : Type 0} {live : Handles} {w u : HostModel} {l : Allowance} {r : Request} {growth : ℕ} (writes : IsWriting r)
+    (first : Reckons live w u l (written_by r) (end_after r) growth) (rises : rose → all) (v : HostModel) where
   both_touch : {ends : List ℕ} → Touches u.tree v.tree (starts_at r) ends u.touched v.touched
       → Touches w.tree v.tree (starts_at r) ends w.touched v.touched
   both_touch {ends} second = touches_both
@@ -247,17 +247,17 @@ module _ {rose all : Type 0} {live : Handles} {w u : World} {l : Allowance} {r :
     touched = both_touch asked.touched;
   }
 
-module _ {H : Type 0} {told : Bool} {world : H → World} {rose : Type 0} {live : Handles} {old mid : H}
+module _ {H : Type 0} {modelled : Bool} {model : H → HostModel} {rose : Type 0} {live : Handles} {old mid : H}
     {limit : Option Allowance} (w : Request) where
   -- where the growth was refused, or its file not looked at
-  module _ {e : P1Error} (check : ChecksGrowth told world rose live old mid limit (written_by w) (end_after w) (Err e)) where
+  module _ {e : P1Error} (check : ChecksGrowth modelled model rose live old mid limit (written_by w) (end_after w) (Err e)) where
     -- the tree stays
-    pub growth_refused_leaves : IsTrue told → (world mid).tree ≡ (world old).tree
+    pub growth_refused_leaves : IsTrue modelled → (model mid).tree ≡ (model old).tree
     growth_refused_leaves is = by limit check
       where
-        by : (o : Option Allowance) → ChecksGrowth told world rose live old mid o (written_by w) (end_after w) (Err e)
-            → (world mid).tree ≡ (world old).tree
-        by None check = ap (λ h. (world h).tree) (check.unbound refl).1
+        by : (o : Option Allowance) → ChecksGrowth modelled model rose live old mid o (written_by w) (end_after w) (Err e)
+            → (model mid).tree ≡ (model old).tree
+        by None check = ap (λ h. (model h).tree) (check.unbound refl).1
         by (Some l) check = elim (check.tells is l refl).does [
           | inl asked ↦ elim asked.tree [ inl same ↦ same | inr (io, hidden) ↦ hidden.stepped ]
           | inr (metadata, asked, gives) ↦ asked.tree
@@ -267,7 +267,7 @@ module _ {H : Type 0} {told : Bool} {world : H → World} {rose : Type 0} {live 
       pub growth_refused_front : IsReplied (grow_request limit w) (grow_next limit w next) (Err e)
       growth_refused_front = by limit check
         where
-          by : (o : Option Allowance) → ChecksGrowth told world rose live old mid o (written_by w) (end_after w) (Err e)
+          by : (o : Option Allowance) → ChecksGrowth modelled model rose live old mid o (written_by w) (end_after w) (Err e)
               → IsReplied (grow_request o w) (grow_next o w next) (Err e)
           by None check = absurd (let is = (check.unbound refl).0 in cc)
           by (Some l) check = elim (check.front l refl) [
@@ -276,17 +276,17 @@ module _ {H : Type 0} {told : Bool} {world : H → World} {rose : Type 0} {live 
                 inr (None, tt, ap Err (sym (too_much _ b gives).1)))
           ]
 
-      pub growth_refused_made : IsWriting w → IsTrue told
-          → Makes rose live (world old) (world mid) (grow_request limit w) (grow_next limit w next) (Err e)
+      pub growth_refused_made : IsWriting w → IsTrue modelled
+          → Makes rose live (model old) (model mid) (grow_request limit w) (grow_next limit w next) (Err e)
       growth_refused_made writes is = by limit check
         where
-          by : (o : Option Allowance) → ChecksGrowth told world rose live old mid o (written_by w) (end_after w) (Err e)
-              → Makes rose live (world old) (world mid) (grow_request o w) (grow_next o w next) (Err e)
+          by : (o : Option Allowance) → ChecksGrowth modelled model rose live old mid o (written_by w) (end_after w) (Err e)
+              → Makes rose live (model old) (model mid) (grow_request o w) (grow_next o w next) (Err e)
           by None check = absurd (let wrong = (check.unbound refl).0 in cc)
           by (Some l) check = record { keeps = (check.tells is l refl).keeps; does = does (check.tells is l refl).does }
             where
               t : Tree
-              t = (world old).tree
+              t = (model old).tree
 
               n : ℕ
               n = written_by w
@@ -296,9 +296,9 @@ module _ {H : Type 0} {told : Bool} {world : H → World} {rose : Type 0} {live 
               above true at is = (rw at refl, rw at refl)
               above false at is = absurd (cc)
 
-              does : Does rose (world old) (world mid) (Direct (Stat n))
+              does : Does rose (model old) (model mid) (Direct (Stat n))
                   (λ metadata. growth_from l (end_after w) metadata.size) (Err e)
-                  → Does rose (world old) (world mid) (Grow l w) (grow_next (Some l) w next) (Err e)
+                  → Does rose (model old) (model mid) (Grow l w) (grow_next (Some l) w next) (Err e)
               does (inl asked) = inl (record {
                 reply = elim asked.reply [
                   | inl is ↦ absurd (let wrong = is ∙ ap from_host (seen t n) in cc)
@@ -306,7 +306,7 @@ module _ {H : Type 0} {told : Bool} {world : H → World} {rose : Type 0} {live 
                   | inr (inr (is, up)) ↦ inr (inr (let same : e ≡ Errno errnos.Io = (cc) in ap Err same, up))
                 ];
                 tree = inl (elim asked.tree [ inl same ↦ same | inr (io, hidden) ↦ hidden.stepped ]);
-                touched = subst (λ (ns : List ℕ). Touches t (world mid).tree ns [] (world old).touched (world mid).touched)
+                touched = subst (λ (ns : List ℕ). Touches t (model mid).tree ns [] (model old).touched (model mid).touched)
                     (sym writes.starts) asked.touched;
               })
               does (inr (metadata, asked, gives)) =
@@ -318,23 +318,23 @@ module _ {H : Type 0} {told : Bool} {world : H → World} {rose : Type 0} {live 
                     record {
                       reply = inl (sym (ap from_host both.0));
                       tree = asked.tree ∙ sym both.1;
-                      touched = subst (λ (ns : List ℕ). Touches t (world mid).tree ns (comes_to t w) (world old).touched (world mid).touched)
+                      touched = subst (λ (ns : List ℕ). Touches t (model mid).tree ns (comes_to t w) (model old).touched (model mid).touched)
                           (sym writes.starts)
-                          (subst (λ (ns : List ℕ). Touches t (world mid).tree (n ∷ []) ns (world old).touched (world mid).touched)
+                          (subst (λ (ns : List ℕ). Touches t (model mid).tree (n ∷ []) ns (model old).touched (model mid).touched)
                           (sym (writes.comes t)) asked.touched);
                     },
                     ap Err (sym much.1),
                   )
 
   -- where it was let through, and the request was made then
-  module _ {growth : ℕ} (check : ChecksGrowth told world rose live old mid limit (written_by w) (end_after w) (Ok growth)) where
+  module _ {growth : ℕ} (check : ChecksGrowth modelled model rose live old mid limit (written_by w) (end_after w) (Ok growth)) where
     -- the growth is the one that the request counts
-    pub grow_counts : IsWriting w → IsTrue told → growth ≡ growth_in (world old).tree (grow_request limit w)
+    pub grow_counts : IsWriting w → IsTrue modelled → growth ≡ growth_in (model old).tree (grow_request limit w)
     grow_counts writes is = by limit check
       where
-        by : (o : Option Allowance) → ChecksGrowth told world rose live old mid o (written_by w) (end_after w) (Ok growth)
-            → growth ≡ growth_in (world old).tree (grow_request o w)
-        by None check = (let none : growth ≡ 0 = (let is = (check.unbound refl).0 in cc) in none ∙ sym (writes.alone (world old).tree))
+        by : (o : Option Allowance) → ChecksGrowth modelled model rose live old mid o (written_by w) (end_after w) (Ok growth)
+            → growth ≡ growth_in (model old).tree (grow_request o w)
+        by None check = (let none : growth ≡ 0 = (let is = (check.unbound refl).0 in cc) in none ∙ sym (writes.alone (model old).tree))
         by (Some l) check = (reckons l (end_after w) (check.tells is l refl)).is
 
     module _ {A : Type 0} (next : Reply w → CallResult A) where
@@ -350,20 +350,20 @@ module _ {H : Type 0} {told : Bool} {world : H → World} {rose : Type 0} {live 
           → Follows (grow_request limit w) (grow_next limit w next) (Ok (growth, x))
       grow_front_ok {x} (reply, may, is) = by limit check
         where
-          by : (o : Option Allowance) → ChecksGrowth told world rose live old mid o (written_by w) (end_after w) (Ok growth)
+          by : (o : Option Allowance) → ChecksGrowth modelled model rose live old mid o (written_by w) (end_after w) (Ok growth)
               → Follows (grow_request o w) (grow_next o w next) (Ok (growth, x))
           by None check = (reply, may, let none : growth ≡ 0 = (let is = (check.unbound refl).0 in cc) in rw (is, none) refl)
           by (Some l) check = (Some (growth, reply), may, rw is refl)
 
-      module _ {new : H} {rose' all : Type 0} (writes : IsWriting w) (rises : rose' → all) (is : IsTrue told) where
-        pub grow_made_err : {e : P1Error} → Makes rose' live (world mid) (world new) w next (Err e)
-            → Makes all live (world old) (world new) (grow_request limit w) (grow_next limit w next) (Err e)
+      module _ {new : H} {rose' all : Type 0} (writes : IsWriting w) (rises : rose' → all) (is : IsTrue modelled) where
+        pub grow_made_err : {e : P1Error} → Makes rose' live (model mid) (model new) w next (Err e)
+            → Makes all live (model old) (model new) (grow_request limit w) (grow_next limit w next) (Err e)
         grow_made_err {e} makes = by limit check
           where
-            by : (o : Option Allowance) → ChecksGrowth told world rose live old mid o (written_by w) (end_after w) (Ok growth)
-                → Makes all live (world old) (world new) (grow_request o w) (grow_next o w next) (Err e)
+            by : (o : Option Allowance) → ChecksGrowth modelled model rose live old mid o (written_by w) (end_after w) (Ok growth)
+                → Makes all live (model old) (model new) (grow_request o w) (grow_next o w next) (Err e)
             by None check =
-                let there = subst (λ (h : H). Makes rose' live (world h) (world new) w next (Err e)) (check.unbound refl).1 makes in
+                let there = subst (λ (h : H). Makes rose' live (model h) (model new) w next (Err e)) (check.unbound refl).1 makes in
                 record {
                   keeps = there.keeps;
                   does = elim there.does [
@@ -375,19 +375,19 @@ module _ {H : Type 0} {told : Bool} {world : H → World} {rose : Type 0} {live 
                 let first = reckons l (end_after w) (check.tells is l refl) in record {
                   keeps = λ h live. makes.keeps h live ∙ first.keeps h live;
                   does = elim makes.does [
-                    | inl asked ↦ inl (both_err writes first rises (world new) asked)
-                    | inr (reply, asked, is) ↦ inr (Some (growth, reply), both_ok writes first rises (world new) asked, rw is refl)
+                    | inl asked ↦ inl (both_err writes first rises (model new) asked)
+                    | inr (reply, asked, is) ↦ inr (Some (growth, reply), both_ok writes first rises (model new) asked, rw is refl)
                   ];
                 }
 
-        pub grow_made_ok : {x : A} → Makes rose' live (world mid) (world new) w next (Ok x)
-            → Makes all live (world old) (world new) (grow_request limit w) (grow_next limit w next) (Ok (growth, x))
+        pub grow_made_ok : {x : A} → Makes rose' live (model mid) (model new) w next (Ok x)
+            → Makes all live (model old) (model new) (grow_request limit w) (grow_next limit w next) (Ok (growth, x))
         grow_made_ok {x} makes = by limit check
           where
-            by : (o : Option Allowance) → ChecksGrowth told world rose live old mid o (written_by w) (end_after w) (Ok growth)
-                → Makes all live (world old) (world new) (grow_request o w) (grow_next o w next) (Ok (growth, x))
+            by : (o : Option Allowance) → ChecksGrowth modelled model rose live old mid o (written_by w) (end_after w) (Ok growth)
+                → Makes all live (model old) (model new) (grow_request o w) (grow_next o w next) (Ok (growth, x))
             by None check =
-                let there = subst (λ (h : H). Makes rose' live (world h) (world new) w next (Ok x)) (check.unbound refl).1 makes in
+                let there = subst (λ (h : H). Makes rose' live (model h) (model new) w next (Ok x)) (check.unbound refl).1 makes in
                 let none : growth ≡ 0 = (let is = (check.unbound refl).0 in cc) in
                 let (reply, asked, is) = there.does in
                 record { keeps = there.keeps; does = (reply, asked_all rises asked, rw (is, none) refl) }
@@ -395,5 +395,5 @@ module _ {H : Type 0} {told : Bool} {world : H → World} {rose : Type 0} {live 
                 let first = reckons l (end_after w) (check.tells is l refl) in
                 let (reply, asked, is) = makes.does in record {
                   keeps = λ h live. makes.keeps h live ∙ first.keeps h live;
-                  does = (Some (growth, reply), both_ok writes first rises (world new) asked, rw is refl);
+                  does = (Some (growth, reply), both_ok writes first rises (model new) asked, rw is refl);
                 }

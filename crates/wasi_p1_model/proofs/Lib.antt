@@ -8,7 +8,7 @@ pub mod Putting
 pub mod Numbers
 pub mod RequestsLeave
 pub mod RequestsAgree
-pub mod RowEnds
+pub mod SpecEnds
 pub mod Changing
 pub mod Bytes
 pub mod Paging
@@ -70,6 +70,6 @@ pub mod Apart
 pub mod TotalBytes
 pub mod QuotaRequests
 pub mod QuotaParts
-pub mod QuotaRows
+pub mod QuotaSpecs
 pub mod QuotaTurns
 pub mod QuotaRuns

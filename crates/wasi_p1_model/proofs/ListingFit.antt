@@ -161,7 +161,7 @@ module _ (t : Tree) (valid : IsValidTree t) where
     -- each has a number of the tree
     numbered_fits : (e : Listed) {entry : Entry} → IsTrue (is_entry_name e.0) → numbered_at t d e ≡ Ok entry → EntryFits entry
     numbered_fits e {entry} good is =
-        let (metadata, found, told) = both_ok (path_reply t (LookPath d e.0 false)) _ is in
+        let (metadata, found, modelled) = both_ok (path_reply t (LookPath d e.0 false)) _ is in
         let (n, looks, has) = both_ok (looked t d e.0 false) _ found in
         let inside : GivesIn (λ n. n < next_of t) (λ n. n) (Ok n) =
         subst (GivesIn (λ n. n < next_of t) (λ n. n)) looks (looked_seen names_within itself d e.0 false within) in
@@ -179,12 +179,12 @@ module _ (t : Tree) (valid : IsValidTree t) where
         let same : [] ≡ entries = (cc) in
         subst (λ es. All (λ (e : Entry). EntryFits e) es × (length es ≡ 0)) same (All-nil _, refl)
     all_fit (e ∷ es) {entries} good is =
-        let (first, told, rest) = both_ok (numbered_at t d e) _ is in
+        let (first, modelled, rest) = both_ok (numbered_at t d e) _ is in
         let (others, later, whole) = both_ok (all_numbered_at t d es) _ rest in
         let same : first ∷ others ≡ entries = (cc) in
         let fit = all_fit es (All-tail (λ (e : Listed). IsTrue (is_entry_name e.0)) e es good) later in
         subst (λ xs. All (λ (e : Entry). EntryFits e) xs × (length xs ≡ suc (length es))) same (
-          All-cons (λ (e : Entry). EntryFits e) first others (numbered_fits e (All-head (λ (e : Listed). IsTrue (is_entry_name e.0)) e es good) told) fit.0,
+          All-cons (λ (e : Entry). EntryFits e) first others (numbered_fits e (All-head (λ (e : Listed). IsTrue (is_entry_name e.0)) e es good) modelled) fit.0,
           ap suc fit.1,
         )
 
@@ -224,10 +224,10 @@ dots_fit d entries less fit =
 pub listings_fit : ListingsFit
 unfolding listing_at
 listings_fit t d told_of valid is =
-    let (names, told, looks) = both_ok (lists_at t d).answer _ is in
+    let (names, modelled, looks) = both_ok (lists_at t d).answer _ is in
     let (own, stated, rest) = both_ok (stat_answer t d) _ looks in
     let (entries, numbered, whole) = both_ok (all_numbered_at t d names) _ rest in
-    let (directory, all) = opened_lists t d told in
+    let (directory, all) = opened_lists t d modelled in
     let good = subst (All (λ (e : Listed). IsTrue (is_entry_name e.0))) (sym all) (listing_named t d (valid_entries t d valid directory)) in
     let fit = all_fit t valid d directory names good numbered in
     let number : own.node < 2 ^ 64 =

@@ -8,7 +8,7 @@ use Rattle.std.proofs.lemmas.List.Elements.{All-nil, All-cons, All-head, All-tai
 use Rattle.wasi_paths.specs.Text.{is_plain, has_nul, is_long, is_entry_name}
 use Rattle.wasi_host.specs.Answer.{Listed, entry_of, stat_answer}
 use Rattle.wasi_host.specs.HostCall.{Stat}
-use Rattle.wasi_host.specs.HostLaws.{World, Handles, MeansErr, Told}
+use Rattle.wasi_host.specs.HostLaws.{HostModel, Handles, MeansErr, RefinesCall}
 use Rattle.wasi_host.specs.Steps.{◌>>=◌}
 use Rattle.wasi_host.specs.Tree.{Tree}
 use Rattle.wasi_host.specs.declared.dir_entry.DirEntry.{DirEntry}
@@ -52,11 +52,11 @@ numbered_append t d [] ys {es} is =
     subst (λ es. all_numbered_at t d ys ≡ all_numbered_at t d ys >>= (λ more. Ok (es ++ more))) same
     (in_front_of_all (all_numbered_at t d ys))
 numbered_append t d (x ∷ xs) ys {es} is =
-    let (first, told, rest) = both_ok (numbered_at t d x) _ is in
+    let (first, modelled, rest) = both_ok (numbered_at t d x) _ is in
     let (others, later, whole) = both_ok (all_numbered_at t d xs) _ rest in
     let same : first ∷ others ≡ es = (cc) in
     subst (λ es. all_numbered_at t d (x ∷ xs ++ ys) ≡ all_numbered_at t d ys >>= (λ more. Ok (es ++ more))) same
-    (ap (λ m. m >>= (λ first. all_numbered_at t d (xs ++ ys) >>= (λ more. Ok (first ∷ more)))) told
+    (ap (λ m. m >>= (λ first. all_numbered_at t d (xs ++ ys) >>= (λ more. Ok (first ∷ more)))) modelled
     ∙ ap (λ m. m >>= (λ more. Ok (first ∷ more))) (numbered_append t d xs ys later)
     ∙ in_front first others (all_numbered_at t d ys))
 
@@ -101,7 +101,7 @@ short_more (y ∷ xs) x all is =
 
 -- ---- reads from a directory on, one behind another
 
-module _ {live mid : Handles} {w u v : World} {dir : ℕ} (held : contains live dir ≡ true) (same : mid ≡ live)
+module _ {live mid : Handles} {w u v : HostModel} {dir : ℕ} (held : contains live dir ≡ true) (same : mid ≡ live)
     (so_far : OnlyLooks live w u ((w.held dir).node ∷ [])) where
   read_on : {A B : Type 0} {shown : A → B} {r : Result A HostError} (answer : Tree → ℕ → Result B ErrorCode)
       → Resolved mid u v (reads_from u.tree (u.held dir).node (answer u.tree (u.held dir).node)) shown r
@@ -113,31 +113,31 @@ module _ {live mid : Handles} {w u v : World} {dir : ℕ} (held : contains live 
       let there = subst (λ t. Resolved mid u v (reads_from t d (answer t d)) shown r) so_far.tree here in
       resolved_then so_far (at_root w.tree d) (same_live same) refl there
 
-read_looks : {A B : Type 0} {live : Handles} {w v : World} {d : ℕ} {answer : Result B ErrorCode} {shown : A → B}
+read_looks : {A B : Type 0} {live : Handles} {w v : HostModel} {d : ℕ} {answer : Result B ErrorCode} {shown : A → B}
     (r : Result A HostError) → Resolved live w v (reads_from w.tree d answer) shown r → OnlyLooks live w v (d ∷ [])
 read_looks r did = looks_of r (λ _. refl) did
 
 -- ---- the looks at names
 
 -- so far there were looks alone, and these are the entries
-pub record SoFar (live : Handles) (w u : World) (d node : ℕ) (names : List Listed) (entries : List Entry) : Type 0 where
+pub record SoFar (live : Handles) (w u : HostModel) (d node : ℕ) (names : List Listed) (entries : List Entry) : Type 0 where
   pub looks : OnlyLooks live w u (d ∷ [])
   pub others : List Entry
-  pub told : all_numbered_at w.tree d names ≡ Ok others
+  pub modelled : all_numbered_at w.tree d names ≡ Ok others
   pub whole : entries ≡ dots node ++ others
 
-pub none_yet : {live : Handles} {w : World} {d node : ℕ} {entries : List Entry} → entries ≡ dots node
+pub none_yet : {live : Handles} {w : HostModel} {d node : ℕ} {entries : List Entry} → entries ≡ dots node
     → SoFar live w w d node [] entries
-none_yet {live} {w} {d} is = record { looks = looks_none live w (d ∷ []); others = []; told = refl; whole = is }
+none_yet {live} {w} {d} is = record { looks = looks_none live w (d ∷ []); others = []; modelled = refl; whole = is }
 
 -- all were had
-pub all_looked : {A : Type 0} {live : Handles} {w u : World} {d node : ℕ} {names : List Listed} {shown : A → List Entry} {a : A}
+pub all_looked : {A : Type 0} {live : Handles} {w u : HostModel} {d node : ℕ} {names : List Listed} {shown : A → List Entry} {a : A}
     → SoFar live w u d node names (shown a)
     → Resolved live w u (reads_from w.tree d (numbered_behind w.tree d node names)) shown (Ok a)
 all_looked {w = w} {d = d} {node = node} {shown = shown} {a = a} so_far =
-    found_ok shown a (ap (λ m. m >>= (λ entries. Ok (dots node ++ entries))) so_far.told ∙ ap Ok (sym so_far.whole)) so_far.looks
+    found_ok shown a (ap (λ m. m >>= (λ entries. Ok (dots node ++ entries))) so_far.modelled ∙ ap Ok (sym so_far.whole)) so_far.looks
 
-module _ {live mid : Handles} {w u v : World} {dir node : ℕ} {names : List Listed} {entries : List Entry} (e : Listed)
+module _ {live mid : Handles} {w u v : HostModel} {dir node : ℕ} {names : List Listed} {entries : List Entry} (e : Listed)
     (held : contains live dir ≡ true) (same : mid ≡ live) (so_far : SoFar live w u (w.held dir).node node names entries) where
   -- one more
   pub one_looked : {A : Type 0} {shown : A → Entry} {a : A}
@@ -150,24 +150,24 @@ module _ {live mid : Handles} {w u v : World} {dir node : ℕ} {names : List Lis
       record {
         looks = read_looks (Ok a) did;
         others = so_far.others ++ shown a ∷ [];
-        told = numbered_append w.tree (w.held dir).node names (e ∷ []) so_far.told
+        modelled = numbered_append w.tree (w.held dir).node names (e ∷ []) so_far.modelled
             ∙ ap (λ m. m >>= (λ more. Ok (so_far.others ++ more))) one;
         whole = ap (λ es. es ++ shown a ∷ []) so_far.whole;
       }
 
   -- it wasn't answered
-  pub not_looked : {A B : Type 0} {shown : A → Entry} {told : B → List Entry} (error : HostError) (rest : List Listed)
+  pub not_looked : {A B : Type 0} {shown : A → Entry} {modelled : B → List Entry} (error : HostError) (rest : List Listed)
       → Resolved mid u v (reads_from u.tree (u.held dir).node (numbered_at u.tree (u.held dir).node e)) shown (Err error)
       → Resolved live w v (reads_from w.tree (w.held dir).node
-      (numbered_behind w.tree (w.held dir).node node (names ++ e ∷ rest))) told (Err error)
-  not_looked {shown = shown} {told = told} error rest next =
+      (numbered_behind w.tree (w.held dir).node node (names ++ e ∷ rest))) modelled (Err error)
+  not_looked {shown = shown} {modelled = modelled} error rest next =
       let d : ℕ = (w.held dir).node in
       let did = read_on held same so_far.looks (λ t d. numbered_at t d e) next in
       let first = means_then (numbered_at w.tree d e) (λ first. all_numbered_at w.tree d rest >>= (λ others. Ok (first ∷ others)))
       error did.answer in
-      let all = subst (λ m. MeansErr m error) (sym (numbered_append w.tree d names (e ∷ rest) so_far.told))
+      let all = subst (λ m. MeansErr m error) (sym (numbered_append w.tree d names (e ∷ rest) so_far.modelled))
       (means_then (all_numbered_at w.tree d (e ∷ rest)) (λ more. Ok (so_far.others ++ more)) error first) in
-      resolved_err (reads_from w.tree d (numbered_behind w.tree d node (names ++ e ∷ rest))) told error refl
+      resolved_err (reads_from w.tree d (numbered_behind w.tree d node (names ++ e ∷ rest))) modelled error refl
       (means_then (all_numbered_at w.tree d (names ++ e ∷ rest)) (λ entries. Ok (dots node ++ entries)) error all)
       (read_looks (Err error) did)
 
@@ -185,35 +185,35 @@ ends_if P ns false all = All-nil P
 abbrev after_names : Tree → ℕ → List Listed → Result (List Entry) ErrorCode
 after_names t d names = stat_answer t d >>= (λ own. numbered_behind t d own.node names)
 
-module _ {A B : Type 0} {live : Handles} {w : World} {d : ℕ} {shown : A → List Listed} {told : B → List Entry} where
+module _ {A B : Type 0} {live : Handles} {w : HostModel} {d : ℕ} {shown : A → List Listed} {modelled : B → List Entry} where
   -- it wasn't listed
-  pub not_listed : {u : World} (error : HostError) → Resolved live w u (lists_at w.tree d) shown (Err error)
-      → Resolved live w u (meant_of w.tree (ListDirectory d)) told (Err error)
+  pub not_listed : {u : HostModel} (error : HostError) → Resolved live w u (lists_at w.tree d) shown (Err error)
+      → Resolved live w u (meant_of w.tree (ListDirectory d)) modelled (Err error)
   unfolding listing_at
   not_listed error did =
-      resolved_err (meant_of w.tree (ListDirectory d)) told error refl
+      resolved_err (meant_of w.tree (ListDirectory d)) modelled error refl
       (means_then (lists_at w.tree d).answer (after_names w.tree d) error did.answer) (looks_of (Err error) (λ _. refl) did)
 
-module _ {A B : Type 0} {live mid next : Handles} {w u v : World} {dir : ℕ} {shown : A → List Listed} {told : B → List Entry} {names : A}
+module _ {A B : Type 0} {live mid next : Handles} {w u v : HostModel} {dir : ℕ} {shown : A → List Listed} {modelled : B → List Entry} {names : A}
     (held : contains live dir ≡ true) (same : mid ≡ live) (still : next ≡ mid)
     (listed : Resolved live w u (lists_at w.tree (w.held dir).node) shown (Ok names)) where
   -- it wasn't looked at itself
-  pub not_seen : (error : HostError) → Told {A = Metadata} mid next u v (Stat (u.held dir).node) (λ m. m) (Err error)
-      → Resolved live w v (meant_of w.tree (ListDirectory (w.held dir).node)) told (Err error)
+  pub not_seen : (error : HostError) → RefinesCall {A = Metadata} mid next u v (Stat (u.held dir).node) (λ m. m) (Err error)
+      → Resolved live w v (meant_of w.tree (ListDirectory (w.held dir).node)) modelled (Err error)
   unfolding listing_at
   not_seen error looked =
       let d : ℕ = (w.held dir).node in
       let did = read_on held same (looks_of (Ok names) (λ _. refl) listed) {shown = λ (m : Metadata). m} (λ t d. stat_answer t d) (call_err error [] still looked) in
       let means = means_then (stat_answer w.tree d) (λ own. numbered_behind w.tree d own.node (shown names)) error did.answer in
-      resolved_err (meant_of w.tree (ListDirectory d)) told error refl
+      resolved_err (meant_of w.tree (ListDirectory d)) modelled error refl
       (subst (λ m. MeansErr (m >>= after_names w.tree d) error) (sym listed.answer) means) (read_looks (Err error) did)
 
   -- and then each name was
-  pub is_listed : {last : Handles} {z : World} {metadata : Metadata} {r : Result B HostError} → last ≡ live
-      → Told {A = Metadata} mid next u v (Stat (u.held dir).node) (λ m. m) (Ok metadata)
+  pub is_listed : {last : Handles} {z : HostModel} {metadata : Metadata} {r : Result B HostError} → last ≡ live
+      → RefinesCall {A = Metadata} mid next u v (Stat (u.held dir).node) (λ m. m) (Ok metadata)
       → Resolved last v z (reads_from v.tree (v.held dir).node
-      (numbered_behind v.tree (v.held dir).node metadata.node (shown names))) told r
-      → Resolved live w z (meant_of w.tree (ListDirectory (w.held dir).node)) told r
+      (numbered_behind v.tree (v.held dir).node metadata.node (shown names))) modelled r
+      → Resolved live w z (meant_of w.tree (ListDirectory (w.held dir).node)) modelled r
   unfolding listing_at
   is_listed {z = z} {metadata = metadata} {r = r} kept looked numbered =
       let d : ℕ = (w.held dir).node in
@@ -227,7 +227,7 @@ module _ {A B : Type 0} {live mid next : Handles} {w u v : World} {dir : ℕ} {s
       let is : listing_at w.tree d ≡ numbered_behind w.tree d metadata.node (shown names) =
       ap (λ m. m >>= after_names w.tree d) listed.answer
       ∙ ap (λ m. m >>= (λ own. numbered_behind w.tree d own.node (shown names))) did.answer in
-      subst (λ m. Resolved live w z (lists_from w.tree d m) told r) (sym is) (record {
+      subst (λ m. Resolved live w z (lists_from w.tree d m) modelled r) (sym is) (record {
         answer = whole.answer;
         tree = whole.tree;
         touched = with_ends _ whole.touched (ends_if (λ n. contains z.touched n ≡ true) (d ∷ []) (is_ok r) came);

@@ -23,7 +23,7 @@ use Rattle.wasi_p1_types.specs.CallResult.{CallResult, Program, done, asking, gi
 use Rattle.wasi_p1_model.specs.Stems.{stems_by, HasPerms}
 use Rattle.wasi_resolve.specs.EntryOps.{ReadLink}
 use Rattle.wasi_resolve.proofs.Asking.{HasUtf8Target}
-use Rattle.wasi_resolve.specs.PathRequest.{PathRequest, OpenPath, LookPath, AtPlace, TimesPath, AtTwo, PathReply, path_gives}
+use Rattle.wasi_resolve.specs.PathRequest.{PathRequest, OpenPath, LookPath, AtEntry, TimesPath, AtTwo, PathReply, path_gives}
 use Rattle.wasi_p1_model.specs.Calls.{Stem, through, stem_in, descriptors_named}
 use Rattle.wasi_p1_types.proofs.Wanting.{IsRefusal, Never}
 
@@ -44,7 +44,7 @@ given_by (Grow limit w) (Some grown) = given_by w grown.1
 abbrev pub AreTexts : PathRequest → Type 0
 AreTexts (OpenPath s text o follow directory) = IsUtf8 text
 AreTexts (LookPath s text follow) = IsUtf8 text
-AreTexts (AtPlace s text what) = IsUtf8 text × HasUtf8Target what
+AreTexts (AtEntry s text what) = IsUtf8 text × HasUtf8Target what
 AreTexts (TimesPath s text follow atime mtime) = IsUtf8 text
 AreTexts (AtTwo old old_text new new_text what) = IsUtf8 old_text × IsUtf8 new_text
 
@@ -58,7 +58,7 @@ MayBeAsked (Grow limit w) = MayBeAsked w
 
 -- a link's text are bytes
 abbrev pub PathGivesBytes : (p : PathRequest) → PathReply p → Type 0
-PathGivesBytes (AtPlace s text ReadLink) link = AreBytes link
+PathGivesBytes (AtEntry s text ReadLink) link = AreBytes link
 PathGivesBytes p found = Unit {0}
 
 -- what is read are bytes

@@ -6,35 +6,35 @@ use Rattle.wasi_guest.specs.declared.call.Call.TheVariants as calls
 use Rattle.wasi_p1_types.specs.Front.{FueledCall}
 use Rattle.wasi_p1_types.specs.Guest.{Guest}
 use Rattle.wasi_p1_types.specs.CallResult.{give}
-use Rattle.wasi_p1_model.specs.Calls.{row, args_get, args_sizes_get, environ_get, environ_sizes_get, clock_res_get, clock_time_get, proc_exit, proc_raise, sched_yield, sock_accept, sock_recv, sock_send, sock_shutdown}
+use Rattle.wasi_p1_model.specs.Calls.{call_spec, args_get, args_sizes_get, environ_get, environ_sizes_get, clock_res_get, clock_time_get, proc_exit, proc_raise, sched_yield, sock_accept, sock_recv, sock_send, sock_shutdown}
 use Rattle.wasi_p1_model.proofs.LocalCalls.{IsLocal}
 use Rattle.wasi_p1_types.proofs.Wanting.{inval_never, sizes_never, clock_res_never, clock_time_never, exit_never, signal_never}
-pub mod Parts
+pub mod SpecParts
 mod Spending
 mod Opening
 mod ReadingAndWriting
 mod PositionsAndSizes
 mod Descriptors
-mod Places
-mod TwoPlaces
+mod PathOps
+mod TwoPaths
 mod Times
 mod Services
 mod Listing
 mod Polling
-use Parts.{RowNear, then, answers_near, tells_near}
+use SpecParts.{SpecNear, then, answers_near, tells_near}
 use Opening.*
 use ReadingAndWriting.*
 use PositionsAndSizes.*
 use Descriptors.*
-use Places.*
-use TwoPlaces.*
+use PathOps.*
+use TwoPaths.*
 use Times.*
 use Services.*
 use Listing.*
 use Polling.*
 
 -- by its form where that says it all, else by a lemma of its own
-front_near : (g : Guest) (call : Call) → RowNear g call
+front_near : (g : Guest) (call : Call) → SpecNear g call
 unfolding args_get args_sizes_get environ_get environ_sizes_get clock_res_get clock_time_get proc_exit proc_raise sched_yield sock_accept sock_recv sock_send sock_shutdown
 front_near g (calls.ArgsGet _ _) = texts_near g.holdings.args _ _ refl (λ are. are.1.args)
 front_near g calls.ArgsSizesGet = tells_near _ _ refl (sizes_never _)
@@ -83,5 +83,5 @@ front_near g (calls.SockRecv _ _ _ _) = no_socket_near _ _ (inval_never _)
 front_near g (calls.SockSend _ _ _ si_flags) = no_socket_near _ (give si_flags) tt
 front_near g (calls.SockShutdown _ _) = no_socket_near _ _ (inval_never _)
 
-pub row_near : (g : Guest) (call : FueledCall) → IsLocal g call.call (row g call)
-row_near g call = (front_near g call.call).near call.fuel
+pub spec_near : (g : Guest) (call : FueledCall) → IsLocal g call.call (call_spec g call)
+spec_near g call = (front_near g call.call).near call.fuel

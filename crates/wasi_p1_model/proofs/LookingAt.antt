@@ -12,7 +12,7 @@ use Rattle.wasi_fs.specs.declared.descriptor_stat.DescriptorType.TheVariants as 
 use Rattle.wasi_fs.specs.declared.metadata_hash.MetadataHashValue.{MetadataHashValue}
 use Rattle.wasi_fs.specs.declared.open_flags.DescriptorFlags.{DescriptorFlags}
 use Rattle.wasi_host.specs.Answer.{metadata_of}
-use Rattle.wasi_host.specs.HostLaws.{World, Handles, MeansErr}
+use Rattle.wasi_host.specs.HostLaws.{HostModel, Handles, MeansErr}
 use Rattle.wasi_host.specs.Refusal.{refusal}
 use Rattle.wasi_host.specs.HostCall.{Flags, Stat}
 use Rattle.wasi_host.specs.declared.errors.ErrorCode.{ErrorCode}
@@ -35,11 +35,11 @@ use Rattle.wasi_p1_types.specs.Request.{Direct}
 use Rattle.wasi_p1_model.proofs.Resolving.{made_ok, made_not}
 
 -- what is made of what a host says of a node
-abbrev pub SeenAs : {B : Type 0} → (Metadata → B) → Handles → World → World → ℕ → Result B HostError → Type 0
+abbrev pub SeenAs : {B : Type 0} → (Metadata → B) → Handles → HostModel → HostModel → ℕ → Result B HostError → Type 0
 SeenAs f live w v n result = Resolved live w v (meant_as f (stats w.tree n)) (λ b. b) result
 
 -- behind a look at the same node
-pub seen_through : {B : Type 0} (f : Metadata → B) {live mid : Handles} {w u v : World} {h : ℕ} {result : Result B HostError}
+pub seen_through : {B : Type 0} (f : Metadata → B) {live mid : Handles} {w u v : HostModel} {h : ℕ} {result : Result B HostError}
     → contains live h ≡ true → mid ≡ live → OnlyLooks live w u ((w.held h).node ∷ [])
     → SeenAs f mid u v (u.held h).node result → SeenAs f live w v (w.held h).node result
 seen_through f {live} {mid} {w} {u} {v} {h} {result} held kept looked next =
@@ -58,7 +58,7 @@ unrefused b m Memory means = tt
 unrefused b m (Code Io) means = tt
 unrefused b m (Code code) means = absurd (cc)
 
-module _ {live : Handles} {w v : World} {n : ℕ} where
+module _ {live : Handles} {w v : HostModel} {n : ℕ} where
   -- the node was looked at, whatever came of it
   pub seen_looks : {B : Type 0} (f : Metadata → B) (result : Result B HostError) → SeenAs f live w v n result
       → OnlyLooks live w v (n ∷ [])
@@ -82,7 +82,7 @@ module _ {live : Handles} {w v : World} {n : ℕ} where
       (unrefused _ _ e did.answer) (flags_looks descriptor (Err e) did)
 
   -- the two answers of a node make one record
-  pub both_seen : {u : World} {stat : DescriptorStat} {hash : MetadataHashValue} → SeenAs descriptor_stat live w u n (Ok stat)
+  pub both_seen : {u : HostModel} {stat : DescriptorStat} {hash : MetadataHashValue} → SeenAs descriptor_stat live w u n (Ok stat)
       → SeenAs metadata_hash live w v n (Ok hash) → SeenAs stat_both live w v n (Ok (record { stat = stat; hash = hash }))
   unfolding refusal
   both_seen {stat = stat} {hash = hash} first second = record {

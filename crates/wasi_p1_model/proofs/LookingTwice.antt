@@ -6,7 +6,7 @@ use Rattle.wasi_fs.specs.DescriptorStat.{descriptor_stat}
 use Rattle.wasi_fs.specs.MetadataHash.{metadata_hash}
 use Rattle.wasi_fs.specs.declared.descriptor_stat.DescriptorStat.{DescriptorStat}
 use Rattle.wasi_fs.specs.declared.metadata_hash.MetadataHashValue.{MetadataHashValue}
-use Rattle.wasi_host.specs.HostLaws.{World, Handles, MeansErr}
+use Rattle.wasi_host.specs.HostLaws.{HostModel, Handles, MeansErr}
 use Rattle.wasi_host.specs.Steps.{◌>>=◌}
 use Rattle.wasi_host.specs.declared.errors.ErrorCode.{ErrorCode}
 use Rattle.wasi_host.specs.declared.errors.ErrorCode.TheVariants.{Io}
@@ -22,7 +22,7 @@ use Rattle.wasi_p1_types.specs.Filestats.{stat_both}
 use Rattle.wasi_p1_types.specs.declared.looked.StatBoth.{StatBoth}
 
 -- what is made of what a look at a path's end gives
-abbrev pub LooksAs : {B : Type 0} → (Metadata → B) → Handles → World → World → ℕ → List ℕ → Bool → Result B HostError → Type 0
+abbrev pub LooksAs : {B : Type 0} → (Metadata → B) → Handles → HostModel → HostModel → ℕ → List ℕ → Bool → Result B HostError → Type 0
 LooksAs f live w v d text follow result =
     Resolved live w v (meant_as f (meant_by w.tree (LookPath d text follow))) (λ b. b) result
 
@@ -35,7 +35,7 @@ means_again f g (Ok a) (Code code) means = absurd (cc)
 means_again f g (Err was) (Code code) means = let same : was ≡ code = cc in ap Err same
 
 -- behind a look at the same path
-pub looked_through : {B : Type 0} (f : Metadata → B) {live mid : Handles} {w u v : World} {h : ℕ} {result : Result B HostError}
+pub looked_through : {B : Type 0} (f : Metadata → B) {live mid : Handles} {w u v : HostModel} {h : ℕ} {result : Result B HostError}
     (text : List ℕ) (follow : Bool) → contains live h ≡ true → mid ≡ live → OnlyLooks live w u ((w.held h).node ∷ [])
     → LooksAs f mid u v (u.held h).node text follow result → LooksAs f live w v (w.held h).node text follow result
 looked_through f {live} {mid} {w} {u} {v} {h} {result} text follow held kept looked next =
@@ -47,7 +47,7 @@ looked_through f {live} {mid} {w} {u} {v} {h} {result} text follow held kept loo
     node : (u.held h).node ≡ (w.held h).node
     node = λ i. (looked.keeps h held i).node
 
-module _ {live : Handles} {w v : World} {d : ℕ} (text : List ℕ) (follow : Bool) where
+module _ {live : Handles} {w v : HostModel} {d : ℕ} (text : List ℕ) (follow : Bool) where
   -- it was looked at, whatever came of it
   pub looked_looks : {B : Type 0} (f : Metadata → B) (result : Result B HostError) → LooksAs f live w v d text follow result
       → OnlyLooks live w v (d ∷ [])
@@ -60,7 +60,7 @@ module _ {live : Handles} {w v : World} {d : ℕ} (text : List ℕ) (follow : Bo
       (means_again f g (path_reply w.tree (LookPath d text follow)) e did.answer) (looked_looks f (Err e) did)
 
   -- the two answers make one record
-  pub both_looked : {u : World} {stat : DescriptorStat} {hash : MetadataHashValue}
+  pub both_looked : {u : HostModel} {stat : DescriptorStat} {hash : MetadataHashValue}
       → LooksAs descriptor_stat live w u d text follow (Ok stat) → LooksAs metadata_hash live w v d text follow (Ok hash)
       → LooksAs stat_both live w v d text follow (Ok (record { stat = stat; hash = hash }))
   both_looked {stat = stat} {hash = hash} first second = record {

@@ -4,7 +4,7 @@ use Rattle.std.specs.Prelude.{count_by}
 use Rattle.std.proofs.lemmas.Bool.Decides.{nat_tests}
 use Rattle.std.proofs.lemmas.List.{map-append, map-set, length-map}
 use Rattle.std.proofs.lemmas.List.Sums.{sum_by-cons}
-use Rattle.wasi_p1_types.specs.Slots.{first_slots, given_slot, given_slots, is_closed_slot}
+use Rattle.wasi_p1_types.specs.Slots.{first_slots, preopen_slot, preopen_slots, is_closed_slot}
 use Rattle.wasi_p1_types.specs.declared.slots.P1Preopen.{P1Preopen}
 use Rattle.wasi_p1_types.specs.Numbering.{passes_at, later_or_here, last_where, put_at, free_number, with_new, live_count}
 use Rattle.wasi_p1_types.specs.declared.slots.Slot.TheVariants.{Stream}
@@ -153,21 +153,21 @@ module _ {A B : Type 0} (f : A → B) (p : A → Bool) (q : B → Bool) (same : 
 
 -- ---- the first descriptors, of which none is closed
 
-none_given : (place : ℕ) (preopens : List P1Preopen) → last_where is_closed_slot (given_slots place preopens) ≡ None
+none_given : (place : ℕ) (preopens : List P1Preopen) → last_where is_closed_slot (preopen_slots place preopens) ≡ None
 none_given place [] = refl
 none_given place (p ∷ ps) = ap (later_or_here false) (none_given (suc place) ps)
 
 given_behind : (place : ℕ) (preopens : List P1Preopen) (p : P1Preopen)
-    → given_slots place (preopens ++ p ∷ []) ≡ given_slots place preopens ++ given_slot (place + length preopens) p ∷ []
-given_behind place [] p = let same : place ≡ place + 0 = omega arith in ap (λ n. given_slot n p ∷ []) same
+    → preopen_slots place (preopens ++ p ∷ []) ≡ preopen_slots place preopens ++ preopen_slot (place + length preopens) p ∷ []
+given_behind place [] p = let same : place ≡ place + 0 = omega arith in ap (λ n. preopen_slot n p ∷ []) same
 given_behind place (q ∷ qs) p =
     let same : suc place + length qs ≡ place + suc (length qs) = omega arith in
-    ap (λ slots. given_slot place q ∷ slots)
-    (given_behind (suc place) qs p ∙ ap (λ n. given_slots (suc place) qs ++ given_slot n p ∷ []) same)
+    ap (λ slots. preopen_slot place q ∷ slots)
+    (given_behind (suc place) qs p ∙ ap (λ n. preopen_slots (suc place) qs ++ preopen_slot n p ∷ []) same)
 
 -- so that one more stands behind them
 pub given_more : (place : ℕ) (preopens : List P1Preopen) (p : P1Preopen) → length preopens ≡ place
-    → with_new is_closed_slot (first_slots preopens) (given_slot place p) ≡ first_slots (preopens ++ p ∷ [])
+    → with_new is_closed_slot (first_slots preopens) (preopen_slot place p) ≡ first_slots (preopens ++ p ∷ [])
 unfolding with_new
 given_more place preopens p long =
     let none = ap (λ o. later_or_here false (later_or_here false (later_or_here false o))) (none_given 0 preopens) in
@@ -175,12 +175,12 @@ given_more place preopens p long =
     rw (none, given_behind 0 preopens p, same) refl
 
 given_live : (place : ℕ) (preopens : List P1Preopen)
-    → live_count is_closed_slot (given_slots place preopens) ≡ length preopens
+    → live_count is_closed_slot (preopen_slots place preopens) ≡ length preopens
 unfolding live_count
 given_live place [] = refl
 given_live place (p ∷ ps) = omega (
   arith,
-  live_more is_closed_slot (given_slot place p) (given_slots (suc place) ps) refl,
+  live_more is_closed_slot (preopen_slot place p) (preopen_slots (suc place) ps) refl,
   given_live (suc place) ps,
 )
 
@@ -188,8 +188,8 @@ given_live place (p ∷ ps) = omega (
 pub first_live : (preopens : List P1Preopen) → live_count is_closed_slot (first_slots preopens) ≡ 3 + length preopens
 first_live preopens = omega (
   arith,
-  live_more is_closed_slot (Stream Input) (Stream Output ∷ Stream Error ∷ given_slots 0 preopens) refl,
-  live_more is_closed_slot (Stream Output) (Stream Error ∷ given_slots 0 preopens) refl,
-  live_more is_closed_slot (Stream Error) (given_slots 0 preopens) refl,
+  live_more is_closed_slot (Stream Input) (Stream Output ∷ Stream Error ∷ preopen_slots 0 preopens) refl,
+  live_more is_closed_slot (Stream Output) (Stream Error ∷ preopen_slots 0 preopens) refl,
+  live_more is_closed_slot (Stream Error) (preopen_slots 0 preopens) refl,
   given_live 0 preopens,
 )

@@ -5,7 +5,7 @@ use Rattle.std.specs.Prelude.{IsTrue}
 use Rattle.wasi_fs.specs.Calls.{opened_of, IsAsked, LiveOpened, Refuses}
 use Rattle.wasi_fs.specs.declared.descriptor.Descriptor.{Descriptor}
 use Rattle.wasi_fs.specs.declared.descriptor.Descriptor.TheVariants as descriptors
-use Rattle.wasi_host.specs.HostLaws.{World, Handles}
+use Rattle.wasi_host.specs.HostLaws.{HostModel, Handles}
 use Rattle.wasi_host.specs.declared.errors.ErrorCode.{ErrorCode}
 use Rattle.wasi_host.specs.declared.errors.HostError.{HostError}
 use Rattle.wasi_host.specs.declared.open_handle.OpenHandle.{OpenHandle}
@@ -35,15 +35,15 @@ opened_asked false held (descriptors.File f) is asked = absurd (cc)
 opened_asked directory held (descriptors.Dir dir) is asked = refl
 
 -- the descriptors stand for the same where nothing was opened, whether it was permitted or not
-pub unopened_stays : {H told : Type 0} {live : Handles} (A : Type 0) (e : HostError) (world : H → World) (old new : H)
+pub unopened_stays : {H modelled : Type 0} {live : Handles} (A : Type 0) (e : HostError) (model : H → HostModel) (old new : H)
     (own : Option ErrorCode) (table : List Slot)
     → Owned live (handles table)
-    → (told → own ≡ None → (h : ℕ) → contains live h ≡ true → (world new).held h ≡ (world old).held h)
+    → (modelled → own ≡ None → (h : ℕ) → contains live h ≡ true → (model new).held h ≡ (model old).held h)
     → Refuses {A = A} own (Err e) old new
-    → told → guest_slots (world new).held table ≡ guest_slots (world old).held table
-unopened_stays A e world old new own table owned keeps refuses is = by own refl refuses
+    → modelled → guest_slots (model new).held table ≡ guest_slots (model old).held table
+unopened_stays A e model old new own table owned keeps refuses is = by own refl refuses
   where
     by : (o : Option ErrorCode) → own ≡ o → Refuses {A = A} o (Err e) old new
-        → guest_slots (world new).held table ≡ guest_slots (world old).held table
+        → guest_slots (model new).held table ≡ guest_slots (model old).held table
     by None none free = guest_slots_stay table owned (keeps is none)
-    by (Some code) some refused = ap (λ h. guest_slots (world h).held table) refused.1
+    by (Some code) some refused = ap (λ h. guest_slots (model h).held table) refused.1

@@ -12,7 +12,7 @@ use Rattle.std.specs.Cmp.{nat_cmp_total}
 use Rattle.std.specs.Ordering.{nat_cmp}
 use Rattle.wasi_host.specs.HostLaws.{Handles}
 use Rattle.wasi_p1_types.specs.Numbering.{last_where, put_at, with_new}
-use Rattle.wasi_p1_types.specs.Slots.{file_under, first_slots, given_slot, given_slots, is_closed_slot}
+use Rattle.wasi_p1_types.specs.Slots.{file_under, first_slots, preopen_slot, preopen_slots, is_closed_slot}
 use Rattle.wasi_p1_types.specs.CallParts.{IsLive}
 use Rattle.wasi_fs.specs.declared.descriptor.File.{File as OpenedFile}
 use Rattle.wasi_p1_types.specs.declared.slots.FileSlot.{FileSlot}
@@ -234,11 +234,11 @@ Apart one other = one.handle ≢ other.handle
 
 -- one more
 pub uses-given : (place : ℕ) (p : P1Preopen) (ps : List P1Preopen) (q : ℕ)
-    → uses (handles (given_slots place (p ∷ ps))) q
-    ≡ one_if (q == p.handle) + uses (handles (given_slots (suc place) ps)) q
+    → uses (handles (preopen_slots place (p ∷ ps))) q
+    ≡ one_if (q == p.handle) + uses (handles (preopen_slots (suc place) ps)) q
 uses-given place p ps q =
-    ap (λ os. uses os q) (handles-cons (given_slot place p) (given_slots (suc place) ps))
-    ∙ uses-cons (Some p.handle) (handles (given_slots (suc place) ps)) q
+    ap (λ os. uses os q) (handles-cons (preopen_slot place p) (preopen_slots (suc place) ps))
+    ∙ uses-cons (Some p.handle) (handles (preopen_slots (suc place) ps)) q
 
 no_given : (q : ℕ) → uses (handles []) q ≡ 0
 unfolding handles uses
@@ -246,7 +246,7 @@ no_given q = refl
 
 -- a handle that none of them has
 unused : (h place : ℕ) (preopens : List P1Preopen) → All (λ other. h ≢ other.handle) preopens
-    → uses (handles (given_slots place preopens)) h ≡ 0
+    → uses (handles (preopen_slots place preopens)) h ≡ 0
 unused h place [] others = no_given h
 unused h place (p ∷ ps) others =
     let no : (h == p.handle) ≡ false = differ (All-head (λ other. h ≢ other.handle) p ps others) in
@@ -257,7 +257,7 @@ unused h place (p ∷ ps) others =
     differ other = grind (arith, nat_tests)
 
 given_once : (live : Handles) (place : ℕ) (preopens : List P1Preopen) (q : ℕ) → All (IsLiveIn live) preopens
-    → AllPairs Apart preopens → uses (handles (given_slots place preopens)) q ≤ one_if (contains live q)
+    → AllPairs Apart preopens → uses (handles (preopen_slots place preopens)) q ≤ one_if (contains live q)
 given_once live place [] q lives apart = omega (arith, no_given q)
 given_once live place (p ∷ ps) q lives apart =
     let rest = by (q == p.handle) refl (given_once live (suc place) ps q (All-tail (IsLiveIn live) p ps lives) later) in
@@ -269,11 +269,11 @@ given_once live place (p ∷ ps) q lives apart =
     later : AllPairs Apart ps
     later i j d less within = apart (suc i) (suc j) d (omega arith) (omega arith)
 
-    by : (b : Bool) → (q == p.handle) ≡ b → uses (handles (given_slots (suc place) ps)) q ≤ one_if (contains live q)
-        → one_if b + uses (handles (given_slots (suc place) ps)) q ≤ one_if (contains live q)
+    by : (b : Bool) → (q == p.handle) ≡ b → uses (handles (preopen_slots (suc place) ps)) q ≤ one_if (contains live q)
+        → one_if b + uses (handles (preopen_slots (suc place) ps)) q ≤ one_if (contains live q)
     by true is once =
         let same : q ≡ p.handle = grind (arith, nat_tests) in
-        let none = ap (uses (handles (given_slots (suc place) ps))) same ∙ unused p.handle (suc place) ps others in
+        let none = ap (uses (handles (preopen_slots (suc place) ps))) same ∙ unused p.handle (suc place) ps others in
         let one = ap one_if (ap (contains live) same ∙ All-head (IsLiveIn live) p ps lives) in
         omega (arith, none, one)
     by false is once = omega (arith, once)
@@ -287,7 +287,7 @@ uses-stream s table q =
 
 -- the standard streams have none
 pub first_uses : (preopens : List P1Preopen) (q : ℕ)
-    → uses (handles (first_slots preopens)) q ≡ uses (handles (given_slots 0 preopens)) q
+    → uses (handles (first_slots preopens)) q ≡ uses (handles (preopen_slots 0 preopens)) q
 first_uses preopens q = uses-stream Input _ q ∙ uses-stream Output _ q ∙ uses-stream Error _ q
 
 -- each has another live handle

@@ -9,7 +9,7 @@ use Rattle.wasi_paths.specs.Parts.{Normal, is_slash, is_empty, is_kept, segments
 use Rattle.wasi_paths.proofs.ComponentLemmas.{components_are, lead_other}
 use Rattle.wasi_host.specs.Answer.{host_answer, metadata_of, reached, unless}
 use Rattle.wasi_host.specs.HostCall.{StatAt}
-use Rattle.wasi_host.specs.HostLaws.{Handles, World, MeansErr, Told}
+use Rattle.wasi_host.specs.HostLaws.{Handles, HostModel, MeansErr, RefinesCall}
 use Rattle.wasi_host.specs.Refusal.{refusal, holds}
 use Rattle.wasi_host.specs.Steps.{◌>>=◌}
 use Rattle.wasi_host.specs.Tree.{Tree, is_link}
@@ -124,24 +124,24 @@ module _ (name : List ℕ) (plain : IsTrue (is_plain name)) where
 
 -- ---- an entry with the number of its node
 
-module _ {live new : Handles} {w v : World} {d : ℕ} {name : List ℕ} (kind : FileType) (plain : IsTrue (is_plain name))
+module _ {live new : Handles} {w v : HostModel} {d : ℕ} {name : List ℕ} (kind : FileType) (plain : IsTrue (is_plain name))
     (same : new ≡ live) where
   -- it is looked at
   pub numbered_so : {m : Metadata} (entry : Stored) → entry_seen entry ≡ record { name = name; node = m.node; kind = kind }
-      → Told live new w v (StatAt d name) (λ metadata. metadata) (Ok m)
+      → RefinesCall live new w v (StatAt d name) (λ metadata. metadata) (Ok m)
       → Resolved live w v (reads_from w.tree d (numbered_at w.tree d (name, kind))) entry_seen (Ok entry)
-  numbered_so {m} entry seen told =
-      let answer : path_reply w.tree (LookPath d name false) ≡ Ok m = look_plain name plain w.tree d ∙ told.meaning in
+  numbered_so {m} entry seen modelled =
+      let answer : path_reply w.tree (LookPath d name false) ≡ Ok m = look_plain name plain w.tree d ∙ modelled.meaning in
       found_ok entry_seen entry
       (ap (λ r. r >>= (λ (metadata : Metadata). Ok (record { name = name; node = metadata.node; kind = kind }))) answer
       ∙ ap Ok (sym seen))
-      (looks_of (Ok m) (λ _. refl) (call_ok [] (All-nil _) (same_live same) told))
+      (looks_of (Ok m) (λ _. refl) (call_ok [] (All-nil _) (same_live same) modelled))
 
   -- or the look is refused
-  pub not_numbered : (e : HostError) → Told live new w v (StatAt d name) (λ metadata. metadata) (Err e)
+  pub not_numbered : (e : HostError) → RefinesCall live new w v (StatAt d name) (λ metadata. metadata) (Err e)
       → Resolved live w v (reads_from w.tree d (numbered_at w.tree d (name, kind))) entry_seen (Err e)
-  not_numbered e told =
+  not_numbered e modelled =
       resolved_err (reads_from w.tree d (numbered_at w.tree d (name, kind))) entry_seen e refl
       (means_then (path_reply w.tree (LookPath d name false)) _ e
-      (subst (λ r. MeansErr r e) (sym (look_plain name plain w.tree d)) told.meaning))
-      (looks_of (Err e) (λ _. refl) (call_err e [] same told))
+      (subst (λ r. MeansErr r e) (sym (look_plain name plain w.tree d)) modelled.meaning))
+      (looks_of (Err e) (λ _. refl) (call_err e [] same modelled))

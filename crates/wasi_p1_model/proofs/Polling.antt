@@ -21,7 +21,7 @@ use Rattle.wasi_guest.specs.declared.subscription.SubscriptionKind.{Subscription
 use Rattle.wasi_guest.specs.declared.subscription.SubscriptionKind.TheVariants as kinds
 use Rattle.wasi_host.specs.Steps.{◌>>=◌}
 use Rattle.wasi_p1_types.specs.Guest.{GuestSlot, node_in}
-use Rattle.wasi_p1_types.specs.Parts.{from_guest, Source, input, from, source_in, Sink, output, into, sink_in}
+use Rattle.wasi_p1_types.specs.SpecParts.{from_guest, ReadTarget, input, from, read_target_in, WriteTarget, output, into, write_target_in}
 use Rattle.wasi_p1_types.specs.Polling.{some_asked, lists_within, end_of, clock_end, waiting_to_read, waiting_to_write, waiting_for, waited_at, all_waited, nodes_in, nodes_read, comes_at, type_of, nbytes_in, event_flags, wall_later, clocks_at, event_of, first_size, events, with_events}
 use Rattle.wasi_p1_types.specs.RawFlags.{or_inval}
 use Rattle.wasi_p1_types.specs.CallResult.{CallResult, give}
@@ -69,7 +69,7 @@ clock_never stock id timeout flags = after (or_inval (clockid_of id)) _ (inval_n
     after (or_inval (flags_in known_subclockflags flags)) _ (inval_never (flags_in known_subclockflags flags))
     (λ set. end_never stock timeout (has set flag.subscription_clock_abstime) clock))
 
-to_write_never : (sink : Sink) → Never (waiting_to_write sink)
+to_write_never : (sink : WriteTarget) → Never (waiting_to_write sink)
 to_write_never (output o) = tt
 to_write_never (into f) = unless_so (is_read_only f.perms) awaiteds.FileToWrite _ refl
 
@@ -77,9 +77,9 @@ waiting_never : (stock : GuestEnvModel) (slots : List GuestSlot) (what : Subscri
 waiting_never stock slots (kinds.Clock id timeout precision flags) =
     after (clock_end stock id timeout flags) _ (clock_never stock id timeout flags) (λ end. tt)
 waiting_never stock slots (kinds.FdRead fd) =
-    after (source_in (slice_get slots fd)) _ (source_never (slice_get slots fd)) (λ source. tt)
+    after (read_target_in (slice_get slots fd)) _ (source_never (slice_get slots fd)) (λ source. tt)
 waiting_never stock slots (kinds.FdWrite fd) =
-    after (sink_in (slice_get slots fd)) _ (sink_never (slice_get slots fd)) to_write_never
+    after (write_target_in (slice_get slots fd)) _ (sink_never (slice_get slots fd)) to_write_never
 
 one_never : (stock : GuestEnvModel) (slots : List GuestSlot) (memory : List ℕ) (at : ℕ) → Never (waited_at stock slots memory at)
 unfolding waited_at
@@ -133,9 +133,9 @@ asked_names stock slots (kinds.Clock id timeout precision flags) = by (clock_end
     by : (m : CallResult ℕ) → NamesOne slots [] (m >>= (λ end. give (awaiteds.Clock end)))
     by (Ok end) = λ n has. no_element n has
     by (Err e) = tt
-asked_names stock slots (kinds.FdRead fd) = by (source_in (slice_get slots fd)) refl
+asked_names stock slots (kinds.FdRead fd) = by (read_target_in (slice_get slots fd)) refl
   where
-    by : (m : CallResult Source) → source_in (slice_get slots fd) ≡ m
+    by : (m : CallResult ReadTarget) → read_target_in (slice_get slots fd) ≡ m
         → NamesOne slots (fd ∷ []) (m >>= (λ source. give (waiting_to_read source)))
     by (Ok input) is = λ n has. no_element n has
     by (Ok (from f)) is = λ n has. record {
@@ -144,13 +144,13 @@ asked_names stock slots (kinds.FdRead fd) = by (source_in (slice_get slots fd)) 
       node = subst (λ slot. Contains (node_in slot) n) (sym (source_is (slice_get slots fd) is)) has;
     }
     by (Err e) is = tt
-asked_names stock slots (kinds.FdWrite fd) = by (sink_in (slice_get slots fd))
+asked_names stock slots (kinds.FdWrite fd) = by (write_target_in (slice_get slots fd))
   where
     none : (b : Bool) → NamesOne slots (fd ∷ []) (let m : CallResult Awaited = cond b (Err (Errno errnos.Perm)) (Ok awaiteds.FileToWrite) in m)
     none true = tt
     none false = λ n has. no_element n has
 
-    by : (m : CallResult Sink) → NamesOne slots (fd ∷ []) (m >>= waiting_to_write)
+    by : (m : CallResult WriteTarget) → NamesOne slots (fd ∷ []) (m >>= waiting_to_write)
     by (Ok (output o)) = λ n has. no_element n has
     by (Ok (into f)) = none (is_read_only f.perms)
     by (Err e) = tt

@@ -22,7 +22,7 @@ use Rattle.wasi_guest.proofs.Ranges.{length_part, with_whole}
 use Rattle.wasi_p1_types.specs.Files.{file_in, read_place_in}
 use Rattle.wasi_p1_types.specs.Front.{ask}
 use Rattle.wasi_p1_types.specs.Guest.{Guest, OpenFile, State, file, file_by, guest_slot}
-use Rattle.wasi_p1_types.specs.Parts.{range, may_write, held_by}
+use Rattle.wasi_p1_types.specs.SpecParts.{range, may_write, held_by}
 use Rattle.wasi_p1_model.specs.PutBytes.{file_bytes, bytes_from, PutsAt, BytesArePut, FilesAreHeld, PutBytesStand, BytesAreGot, PutBytesAreGot}
 use Rattle.wasi_p1_model.specs.Putting.{count_in, put_call, put_end}
 use Rattle.wasi_p1_types.specs.Quotas.{allowance, growth_to}
@@ -34,7 +34,7 @@ use Rattle.wasi_p1_model.specs.Writing.{put_growth, with_grown}
 use Rattle.wasi_p1_types.specs.declared.slots.Slot.{Slot}
 use Rattle.wasi_p1_types.specs.declared.slots.Slot.TheVariants as slots
 use Rattle.wasi_p1_types.specs.declared.usage.FileUse.TheVariants.{WriteAt}
-use Rattle.wasi_p1_model.proofs.Alike.{row_on}
+use Rattle.wasi_p1_model.proofs.Alike.{spec_on}
 use Rattle.wasi_p1_model.proofs.Bytes.{range_is}
 use Rattle.wasi_p1_model.proofs.Changing.{file_is, read_place_is}
 use Rattle.wasi_p1_model.proofs.Moving.{gave_buffer, gave, replied_by}
@@ -131,7 +131,7 @@ record Puts (s s' : State) (f : OpenFile) (offset : ℕ) (piece : List ℕ) (x :
   }
 
 puts : (s s' : State) (f : OpenFile) (offset : ℕ) (piece : List ℕ) (left : ℕ) (x : Value) → f.modes.append ≡ false
-    → row_on s.tree (write_into s.guest f offset piece left).0 ≡ Ok (x, s') → Puts s s' f offset piece x
+    → spec_on s.tree (write_into s.guest f offset piece left).0 ≡ Ok (x, s') → Puts s s' f offset piece x
 puts s s' f offset piece left x other is =
     let (u, permitted, rest) = gave s.tree (may_write f.perms) _ left is in by f.modes.append other rest
   where
@@ -143,7 +143,7 @@ puts s s' f offset piece left x other is =
     next b answer = give (Number (count_in b (held_by f) offset piece answer), s.guest)
 
     by : (b : Bool) → b ≡ false
-        → row_on s.tree (growing (allowance s.guest.holdings f.open_mode)
+        → spec_on s.tree (growing (allowance s.guest.holdings f.open_mode)
         (ask (Direct (put_call b (held_by f) offset piece)) (next b)) left).0 ≡ Ok (x, s')
         → Puts s s' f offset piece x
     by true at is = absurd (cc)

@@ -18,7 +18,7 @@ use Rattle.wasi_host.specs.Tree.{Tree, next_of}
 use Rattle.wasi_resolve.specs.PathRequest.{Opened}
 use Rattle.wasi_p1_types.specs.Guest.{Guest, OpenFile, closed, file, with_guest_slot}
 use Rattle.wasi_p1_types.specs.Numbering.{renumbered}
-use Rattle.wasi_p1_types.specs.Parts.{new_guest_slot, with_file}
+use Rattle.wasi_p1_types.specs.SpecParts.{new_guest_slot, with_file}
 use Rattle.wasi_p1_model.specs.QuotaLaws.{WritesAsOpened, total_bytes}
 use Rattle.wasi_p1_types.specs.Quotas.{allowance, count_on, counted_growth, counted_making, is_used_up}
 use Rattle.wasi_p1_types.specs.Request.{Request, Reply, Grow, after, growth_at, growth_in, reply_of}

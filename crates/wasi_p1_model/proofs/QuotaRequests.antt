@@ -24,7 +24,7 @@ use Rattle.wasi_host.proofs.Chain.{free}
 use Rattle.wasi_host.proofs.Refusals.{free_of}
 use Rattle.wasi_resolve.specs.EntryOps.{EntryOp, CreateDir, RemoveFile, RemoveDir, Symlink, ReadLink, SetTimes, call_at, place_for, step_in}
 use Rattle.wasi_resolve.specs.TwoPathOps.{TwoPathOp, HardLink, Rename, Places, asks_directory, call_at_two, places_for, step_at_two}
-use Rattle.wasi_resolve.specs.PathRequest.{PathRequest, OpenPath, LookPath, AtPlace, TimesPath, AtTwo, Opened, PathReply, answer_at, as_asked, opened_at, path_after, path_reply, times_through}
+use Rattle.wasi_resolve.specs.PathRequest.{PathRequest, OpenPath, LookPath, AtEntry, TimesPath, AtTwo, Opened, PathReply, answer_at, as_asked, opened_at, path_after, path_reply, times_through}
 use Rattle.wasi_resolve.specs.Paths.{Opening, Place, opening, opening_of, step_of, timed}
 use Rattle.wasi_resolve.specs.Walk.{Open, Outcome, Stop, Name, Dot, walk}
 use Rattle.wasi_resolve.proofs.Requests.{as_opened}
@@ -183,7 +183,7 @@ at_place t (SetTimes atime mtime) m =
 abbrev pub made_by : PathRequest → ℕ
 made_by (OpenPath s text o follow directory) = 1
 made_by (LookPath s text follow) = 0
-made_by (AtPlace s text what) = made_at what
+made_by (AtEntry s text what) = made_at what
 made_by (TimesPath s text follow atime mtime) = 0
 made_by (AtTwo old old_text new new_text what) = 0
 
@@ -191,7 +191,7 @@ pub path_within : (t : Tree) (p : PathRequest) {reply : PathReply p} → path_re
     → Within (made_by p) 0 t (path_after t p)
 path_within t (OpenPath s text o follow directory) answered = open_makes t s text o follow directory answered
 path_within t (LookPath s text follow) answered = within_itself
-path_within t (AtPlace s text what) answered = at_place t what (place_for t s text what)
+path_within t (AtEntry s text what) answered = at_place t what (place_for t s text what)
 path_within t (TimesPath s text true atime mtime) answered = times_within t atime mtime (timed t s text)
 path_within t (TimesPath s text false atime mtime) answered =
     at_place t (SetTimes atime mtime) (place_for t s text (SetTimes atime mtime))

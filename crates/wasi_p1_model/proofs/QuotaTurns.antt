@@ -8,8 +8,8 @@ use Rattle.wasi_guest.specs.declared.answer.Value.{Value}
 use Rattle.wasi_p1_types.specs.Front.{FueledCall}
 use Rattle.wasi_p1_types.specs.Guest.{Guest, State}
 use Rattle.wasi_p1_model.specs.QuotaLaws.{CountsUse, quota_of, used_of}
-use Rattle.wasi_p1_types.specs.CallResult.{Program, CallResult, done, asking, row_on, with_tree}
-use Rattle.wasi_p1_model.specs.Calls.{row, turn}
+use Rattle.wasi_p1_types.specs.CallResult.{Program, CallResult, done, asking, spec_on, with_tree}
+use Rattle.wasi_p1_model.specs.Calls.{call_spec, turn}
 use Rattle.wasi_p1_model.specs.Trace.{Faulted, Gives, Played, TraceStep, answer_of, is_success}
 use Rattle.wasi_p1_types.specs.Spending.{growth_of, makes}
 use Rattle.wasi_p1_model.specs.Transition.{AfterFault, StepTaken, used_by}
@@ -17,18 +17,18 @@ use Rattle.wasi_p1_types.specs.declared.error.P1Error.{P1Error}
 use Rattle.wasi_p1_types.specs.declared.error.P1Error.TheVariants.{Errno, Trap, Exit, Memory}
 use Rattle.wasi_p1_model.proofs.Moving.{replied_by}
 use Rattle.wasi_p1_model.proofs.QuotaParts.{SpendsWithin, Uses, counted_alone, nothing_done}
-use Rattle.wasi_p1_model.proofs.QuotaRows.{row_uses}
+use Rattle.wasi_p1_model.proofs.QuotaSpecs.{spec_uses}
 
 -- what a call does to the counts and the tree
 abbrev pub TurnSpends : FueledCall → State → State → Type 0
 TurnSpends call s s' =
-    SpendsWithin (makes call.call) (growth_of s.tree (row s.guest call)) s.guest s'.guest s.tree s'.tree
+    SpendsWithin (makes call.call) (growth_of s.tree (call_spec s.guest call)) s.guest s'.guest s.tree s'.tree
 
 -- so does a row that is answered
 pub answered_spends : (s : State) (call : FueledCall) {p : Value × State} → turn s call ≡ Ok p → TurnSpends call s p.1
-answered_spends s call {p} is = by (row s.guest call) (row_uses s.guest call) is
+answered_spends s call {p} is = by (call_spec s.guest call) (spec_uses s.guest call) is
   where
-    by : (m : CallResult (Program (Value × Guest))) → IfOk m (Uses (makes call.call) s.guest) → row_on s.tree m ≡ Ok p
+    by : (m : CallResult (Program (Value × Guest))) → IfOk m (Uses (makes call.call) s.guest) → spec_on s.tree m ≡ Ok p
         → SpendsWithin (makes call.call) (growth_of s.tree m) s.guest p.1.guest s.tree p.1.tree
     by (Ok (done q)) uses is =
         let same : with_tree (q, s.tree) ≡ p = (cc) in

@@ -4,7 +4,7 @@ use Rattle.std.proofs.lemmas.List.{length-take-le}
 use Rattle.std.specs.FinSet.{contains}
 use Rattle.wasi_host.specs.Answer.{HostAnswer}
 use Rattle.wasi_host.specs.HostCall.{HostCall, Pread}
-use Rattle.wasi_host.specs.HostLaws.{World, Handles, Keeps, Told, hosted}
+use Rattle.wasi_host.specs.HostLaws.{HostModel, Handles, Keeps, RefinesCall, hosted}
 use Rattle.wasi_host.specs.declared.errors.ErrorCode.{ErrorCode}
 use Rattle.wasi_host.specs.declared.errors.ErrorCode.TheVariants.{Io}
 use Rattle.wasi_host.specs.declared.errors.HostError.{HostError}
@@ -23,9 +23,9 @@ use Rattle.wasi_guest.proofs.Ranges.{with_filled}
 use Rattle.wasi_p1_model.proofs.Resolving.{asked_ok, asked_err}
 
 -- a read over a told host of so many bytes, into the front of a buffer
-abbrev pub ReadTold : Handles → Handles → World → World → OpenHandle → ℕ → List ℕ → Result ℕ ErrorCode → ℕ → Type 0
+abbrev pub ReadTold : Handles → Handles → HostModel → HostModel → OpenHandle → ℕ → List ℕ → Result ℕ ErrorCode → ℕ → Type 0
 ReadTold old new w v f position buf result len =
-    Told {A = ℕ} old new w v (Pread f position len) (λ n. take n buf) (hosted result)
+    RefinesCall {A = ℕ} old new w v (Pread f position len) (λ n. take n buf) (hosted result)
 
 -- a buffer whose front was filled, of the size of a range in memory, of which it has the rest
 pub record Filled (memory : List ℕ) (at size : ℕ) (buf : List ℕ) (n len : ℕ) : Type 0 where
@@ -57,71 +57,71 @@ pub read_front : {memory buf : List ℕ} {at size n len : ℕ} → Filled memory
     → (bytes : List ℕ) × (length bytes ≤ size) × (filled_at memory at bytes ≡ Ok (n, with_bytes memory at buf))
 read_front {buf = buf} {n = n} filled = (take n buf, filled_fits filled, filled_front filled)
 
-pub keeps_all : {old new : Handles} (w v : World) → new ≡ old → Keeps old new w v → (q : ℕ) → contains old q ≡ true
+pub keeps_all : {old new : Handles} (w v : HostModel) → new ≡ old → Keeps old new w v → (q : ℕ) → contains old q ≡ true
     → v.held q ≡ w.held q
 keeps_all w v same keeps q is = keeps q is (subst (λ s. contains s q ≡ true) (sym same) is)
 
-pub read_ok : {rose : Type 0} {old new : Handles} {w v : World} {f : OpenHandle} {position at size : ℕ} {memory buf : List ℕ}
+pub read_ok : {rose : Type 0} {old new : Handles} {w v : HostModel} {f : OpenHandle} {position at size : ℕ} {memory buf : List ℕ}
     {n len : ℕ}
     → new ≡ old → Filled memory at size buf n len → ReadTold old new w v f position buf (Ok n) len
     → ReadsInto rose old w v f position at size memory (with_bytes memory at buf) (Ok n)
-read_ok {rose} {old} {new} {w} {v} {f} {position} {at} {size} {memory} {buf} {n} same filled told =
-    let told' = subst (ReadTold old new w v f position buf (Ok n)) filled.sized told in
+read_ok {rose} {old} {new} {w} {v} {f} {position} {at} {size} {memory} {buf} {n} same filled modelled =
+    let modelled' = subst (ReadTold old new w v f position buf (Ok n)) filled.sized modelled in
     record {
-      keeps = keeps_all w v same told'.keeps;
+      keeps = keeps_all w v same modelled'.keeps;
       does = (
         take n buf,
-        asked_ok same told',
+        asked_ok same modelled',
         filled_front filled,
       );
     }
 
 -- a refused read leaves the memory
-pub read_err : {rose : Type 0} {old new : Handles} {w v : World} {f : OpenHandle} {position size : ℕ} {buf : List ℕ}
+pub read_err : {rose : Type 0} {old new : Handles} {w v : HostModel} {f : OpenHandle} {position size : ℕ} {buf : List ℕ}
     {code : ErrorCode} {len : ℕ}
     (at : ℕ) (before after : List ℕ) → new ≡ old → len ≡ size
     → ((let r : Result ℕ HostError = Err (Code code) in r) ≡ Err (Code Io) → rose)
     → ReadTold old new w v f position buf (Err code) len
     → ReadsInto rose old w v f position at size before after (Err (Errno (errno_of code)))
 read_err {old = old} {new = new} {w = w} {v = v} {f = f} {position = position} {size = size} {buf = buf}
-    {code = code} at before after same sized io told =
-    let told' = subst (ReadTold old new w v f position buf (Err code)) sized told in record {
-      keeps = keeps_all w v same told'.keeps;
-      does = inl (asked_err same (Code code) (λ e. io (ap Err e)) told');
+    {code = code} at before after same sized io modelled =
+    let modelled' = subst (ReadTold old new w v f position buf (Err code)) sized modelled in record {
+      keeps = keeps_all w v same modelled'.keeps;
+      does = inl (asked_err same (Code code) (λ e. io (ap Err e)) modelled');
     }
 
 -- ---- one call of a told host, as the request that it stands for
 
-module _ {rose A B : Type 0} {old new : Handles} {w v : World} {call : HostCall} {shown : A → HostAnswer call}
+module _ {rose A B : Type 0} {old new : Handles} {w v : HostModel} {call : HostCall} {shown : A → HostAnswer call}
     {next : HostAnswer call → CallResult B} (same : new ≡ old) where
-  pub told_ok : {a : A} {b : B} → Told old new w v call shown (Ok a) → next (shown a) ≡ Ok b
+  pub told_ok : {a : A} {b : B} → RefinesCall old new w v call shown (Ok a) → next (shown a) ≡ Ok b
       → Makes rose old w v (Direct call) next (Ok b)
-  told_ok {a} told is =
-      record { keeps = keeps_all w v same told.keeps; does = (shown a, asked_ok same told, is) }
+  told_ok {a} modelled is =
+      record { keeps = keeps_all w v same modelled.keeps; does = (shown a, asked_ok same modelled, is) }
 
   -- the row refuses the answer
-  pub told_refused : {a : A} {e : P1Error} → Told old new w v call shown (Ok a) → next (shown a) ≡ Err e
+  pub told_refused : {a : A} {e : P1Error} → RefinesCall old new w v call shown (Ok a) → next (shown a) ≡ Err e
       → Makes rose old w v (Direct call) next (Err e)
-  told_refused {a} told is =
-      record { keeps = keeps_all w v same told.keeps; does = inr (shown a, asked_ok same told, is) }
+  told_refused {a} modelled is =
+      record { keeps = keeps_all w v same modelled.keeps; does = inr (shown a, asked_ok same modelled, is) }
 
   pub told_err : (e : HostError) → ((let r : Result A HostError = Err e in r) ≡ Err (Code Io) → rose)
-      → Told old new w v call shown (Err e) → Makes rose old w v (Direct call) next (Err (error_of e))
-  told_err e io told =
-      record { keeps = keeps_all w v same told.keeps; does = inl (asked_err same e (λ x. io (ap Err x)) told) }
+      → RefinesCall old new w v call shown (Err e) → Makes rose old w v (Direct call) next (Err (error_of e))
+  told_err e io modelled =
+      record { keeps = keeps_all w v same modelled.keeps; does = inl (asked_err same e (λ x. io (ap Err x)) modelled) }
 
 -- ---- what is made of what a part gives
 
-abbrev made_row : {A B : Type 0} → (A → B) → CallResult A → CallResult B
-made_row made m = m >>= (λ x. give (made x))
+abbrev made_spec : {A B : Type 0} → (A → B) → CallResult A → CallResult B
+made_spec made m = m >>= (λ x. give (made x))
 
-pub makes_made : {A B rose : Type 0} {live : Handles} {w v : World} {r : Request} {next : Reply r → CallResult A} (made : A → B)
+pub makes_made : {A B rose : Type 0} {live : Handles} {w v : HostModel} {r : Request} {next : Reply r → CallResult A} (made : A → B)
     (m : CallResult A) → Makes rose live w v r next m
-    → Makes rose live w v r (λ reply. made_row made (next reply)) (made_row made m)
+    → Makes rose live w v r (λ reply. made_spec made (next reply)) (made_spec made m)
 makes_made {A} {rose = rose} {w = w} {v = v} {r = r} {next = next} made m makes =
     record { keeps = makes.keeps; does = by m makes.does }
   where
-    by : (m : CallResult A) → Does rose w v r next m → Does rose w v r (λ reply. made_row made (next reply)) (made_row made m)
-    by (Ok x) (reply, asked, is) = (reply, asked, ap (made_row made) is)
+    by : (m : CallResult A) → Does rose w v r next m → Does rose w v r (λ reply. made_spec made (next reply)) (made_spec made m)
+    by (Ok x) (reply, asked, is) = (reply, asked, ap (made_spec made) is)
     by (Err e) (inl asked) = inl asked
-    by (Err e) (inr (reply, asked, is)) = inr (reply, asked, ap (made_row made) is)
+    by (Err e) (inr (reply, asked, is)) = inr (reply, asked, ap (made_spec made) is)

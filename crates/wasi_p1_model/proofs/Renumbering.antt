@@ -5,8 +5,8 @@ use Rattle.std.proofs.lemmas.List.Edits.{swap_is}
 use Rattle.std.proofs.Math.ListN.{get_or-map}
 use Rattle.std.proofs.lemmas.List.{map-set, set-set, set-get_or}
 use Rattle.std.proofs.lemmas.Option.{slice_get-get_or, get_or_from_slice_get, slice_get_within}
-use Rattle.wasi_host.specs.Lineage.{HasProvenance, Nothing}
-use Rattle.wasi_host.specs.HostLaws.{World, Handles}
+use Rattle.wasi_host.specs.Provenance.{HasProvenance, Nothing}
+use Rattle.wasi_host.specs.HostLaws.{HostModel, Handles}
 use Rattle.wasi_host.specs.declared.lookup.Lookup.{Lookup}
 use Rattle.wasi_guest.specs.declared.answer.Value.{Value}
 use Rattle.wasi_p1_types.specs.CallParts.{Rests, Stays}
@@ -128,7 +128,7 @@ traced_renumbered {from = from} {to = to} table two is same =
 -- ---- what the descriptors stand for
 
 -- handles that are still live stand for the same
-pub renumbered_stays : {live live' : Handles} {w v : World} {dropped : Slot} {from to : ℕ} (table : List Slot)
+pub renumbered_stays : {live live' : Handles} {w v : HostModel} {dropped : Slot} {from to : ℕ} (table : List Slot)
     → AreTwo table from to → slice_get table to ≡ Some dropped → live' ≡ without live (handle_in dropped)
     → Owned live (handles table) → Rests live live' w v → Stays w v (renumbered slots.Closed table from to)
 renumbered_stays {dropped = dropped} {from = from} {to = to} table two is gone owned rests =

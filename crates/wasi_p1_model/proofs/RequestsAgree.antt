@@ -129,9 +129,9 @@ module _ {Seen : ℕ → Type 0} {t u : Tree} (closed : IsClosed Seen t) (agree 
   reply_same (Path p) from = path_reply_same closed agree p from
   reply_same (Direct call) from = answer_same closed agree call from
   reply_same (Behind f piece) from =
-      let told = answer_same (after_closed closed (Behind f piece) from) (after_agree (Behind f piece) from) (Stat f.node)
+      let modelled = answer_same (after_closed closed (Behind f piece) from) (after_agree (Behind f piece) from) (Stat f.node)
       (λ n has. inl (from n has)) in
-      rw (answer_same closed agree (Append f piece) from, told) refl
+      rw (answer_same closed agree (Append f piece) from, modelled) refl
   reply_same (ListDirectory d) from = listing_same d from
   reply_same (Sizes ns) from = ap (λ (sizes : List ℕ). let r : Result (List ℕ) ErrorCode = Ok sizes in r) (sizes_same ns from)
   reply_same (Grow limit w) from =

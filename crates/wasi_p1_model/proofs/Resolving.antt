@@ -6,7 +6,7 @@ use Rattle.wasi_fs.specs.Calls.{meant_as}
 use Rattle.wasi_host.specs.Answer.{HostAnswer}
 use Rattle.wasi_host.specs.HostCall.{HostCall}
 use Rattle.wasi_host.specs.Step.{found_by, made_by}
-use Rattle.wasi_host.specs.HostLaws.{World, Handles, MeansErr, Told}
+use Rattle.wasi_host.specs.HostLaws.{HostModel, Handles, MeansErr, RefinesCall}
 use Rattle.wasi_host.specs.Steps.{◌>>=◌}
 use Rattle.wasi_host.specs.Tree.{Tree}
 use Rattle.wasi_host.specs.declared.errors.ErrorCode.{ErrorCode}
@@ -28,7 +28,7 @@ hidden t t' r free stepped = by (reply_of t r) refl free
     by (Ok reply) at free = record { reply = reply; answered = at; stepped = stepped }
     by (Err code) at free = absurd (cc)
 
-module _ {A : Type 0} {live : Handles} {w v : World} {r : Request} {shown : A → Reply r} where
+module _ {A : Type 0} {live : Handles} {w v : HostModel} {r : Request} {shown : A → Reply r} where
   -- an answer is the request's reply
   pub resolved_ok : {rose : Type 0} {a : A} → Resolved live w v (meant_of w.tree r) shown (Ok a)
       → Asked rose w v r (Ok (shown a))
@@ -54,10 +54,10 @@ module _ {A : Type 0} {live : Handles} {w v : World} {r : Request} {shown : A �
   }
 
 -- a call of the host is the request for it
-module _ {rose A : Type 0} {old new : Handles} {w v : World} {call : HostCall} {shown : A → HostAnswer call}
+module _ {rose A : Type 0} {old new : Handles} {w v : HostModel} {call : HostCall} {shown : A → HostAnswer call}
     (same : new ≡ old) where
-  pub asked_ok : {a : A} → Told old new w v call shown (Ok a) → Asked rose w v (Direct call) (Ok (shown a))
-  asked_ok told = resolved_ok {r = Direct call} {shown = shown} (call_ok (found_by w.tree call) found (same_live same) told)
+  pub asked_ok : {a : A} → RefinesCall old new w v call shown (Ok a) → Asked rose w v (Direct call) (Ok (shown a))
+  asked_ok modelled = resolved_ok {r = Direct call} {shown = shown} (call_ok (found_by w.tree call) found (same_live same) modelled)
     where
       found : All (Contains (found_by w.tree call ++ made_by w.tree call)) (found_by w.tree call)
       found =
@@ -65,9 +65,9 @@ module _ {rose A : Type 0} {old new : Handles} {w v : World} {call : HostCall} {
           (λ n has. Contains-append_left (found_by w.tree call) (made_by w.tree call) n has) (found_by w.tree call)
           (All-contains_itself (found_by w.tree call))
 
-  pub asked_err : (e : HostError) → (e ≡ Code Io → rose) → Told old new w v call shown (Err e)
+  pub asked_err : (e : HostError) → (e ≡ Code Io → rose) → RefinesCall old new w v call shown (Err e)
       → Asked rose w v (Direct call) (Err (error_of e))
-  asked_err e io told = resolved_err {r = Direct call} {shown = shown} e io (call_err e (found_by w.tree call) same told)
+  asked_err e io modelled = resolved_err {r = Direct call} {shown = shown} e io (call_err e (found_by w.tree call) same modelled)
 
 -- ---- where something is made of the answer
 
@@ -87,7 +87,7 @@ module _ {A B : Type 0} (f : A → B) where
   made_of (Ok a) is = (a, refl, cc)
   made_of (Err code) is = absurd (cc)
 
-module _ {B : Type 0} {live : Handles} {w v : World} (r : Request) (f : Reply r → B) where
+module _ {B : Type 0} {live : Handles} {w v : HostModel} (r : Request) (f : Reply r → B) where
   -- some reply was given, of which it is made
   pub made_ok : {rose : Type 0} {b : B} → Resolved live w v (meant_as f (meant_of w.tree r)) (λ b. b) (Ok b)
       → (reply : Reply r) × Asked rose w v r (Ok reply) × (f reply ≡ b)

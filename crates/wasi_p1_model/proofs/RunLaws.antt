@@ -36,8 +36,8 @@ first_turn old call calls t turns new (j, before, is, inr (faulted, none), rest)
 some_same : {a b : Answer} {o : Option Answer} → o ≡ Some a → o ≡ Some b → a ≡ b
 some_same is is' = cc
 
-given_same : {a b : Answer} {new new' : State} (row : CallResult (Value × State)) (old : State) → Gives row old a new
-    → Gives row old b new'
+given_same : {a b : Answer} {new new' : State} (call_spec : CallResult (Value × State)) (old : State) → Gives call_spec old a new
+    → Gives call_spec old b new'
     → (a ≡ b) × (new ≡ new')
 given_same (Ok p) old (is, after) (is', after') = (is ∙ sym is', after ∙ sym after')
 given_same (Err e) old (is, after) (is', after') = (some_same is is', after ∙ sym after')

@@ -5,13 +5,13 @@ use Rattle.std.specs.FinSet.{contains}
 use Rattle.std.proofs.lemmas.List.{map-append, take-append-drop, take_more}
 use Rattle.std.proofs.lemmas.List.Elements.{All-nil, All-append, All-weaker}
 use Rattle.wasi_host.specs.Tree.{Tree, Nodes}
-use Rattle.wasi_host.specs.HostLaws.{World, Rose, FaultCount}
+use Rattle.wasi_host.specs.HostLaws.{HostModel, Rose, FaultCount}
 use Rattle.wasi_p1_types.specs.Guest.{State, Guest}
-use Rattle.wasi_p1_model.specs.Calls.{row, turn, may_run_out_of_memory}
+use Rattle.wasi_p1_model.specs.Calls.{call_spec, turn, may_run_out_of_memory}
 use Rattle.wasi_p1_types.specs.Request.{Path}
 use Rattle.wasi_p1_types.specs.CallResult.{CallResult, Program, done, asking, request_ends, request_comes}
 use Rattle.wasi_p1_model.specs.Transition.{IsTransition, ReachesHost, named_by, come_to_by, used_by}
-use Rattle.wasi_p1_model.specs.CallTransition.{Turns, Causes, in_world}
+use Rattle.wasi_p1_model.specs.CallTransition.{Turns, Causes, in_model}
 use Rattle.wasi_p1_model.proofs.Completing.{run_completes}
 use Rattle.wasi_p1_model.specs.Trace.{TraceStep, Trace, Spends, Played, Faulted, Gives, Allows, answer_of, answers_of, is_io_errno, io_in, ios, ends, ends_of, named, is_success, RefinesTrace, StoodAt, GoOn}
 use Rattle.wasi_guest.specs.declared.answer.Answer.{Answer}
@@ -92,10 +92,10 @@ answer_same e = cc
 
 pub turn_of : {rose : Type 0} {s s' : State} {a : Answer} (call : FueledCall) (r : Result Value P1Error) → answer_of r ≡ Some a
     → IsTransition rose (ReachesHost s call) (used_by s call) s s' r (turn s call) → TurnOf rose (turned s call a s')
-turn_of {s = s} {s' = s'} {a = a} call (Ok x) is row =
-    inl (subst (λ m. Gives m s a s') (sym row) (answer_same is, refl))
+turn_of {s = s} {s' = s'} {a = a} call (Ok x) is call_spec =
+    inl (subst (λ m. Gives m s a s') (sym call_spec) (answer_same is, refl))
 turn_of {s = s} {s' = s'} {a = a} call (Err e) is (inl refuses) =
-    inl (subst (λ m. Gives m s a s') (sym refuses.row_is) (is, refuses.stays))
+    inl (subst (λ m. Gives m s a s') (sym refuses.spec_is) (is, refuses.stays))
 turn_of call (Err e) is (inr (inl wants)) =
     let none : answer_of (Err e) ≡ None = ap (λ x. answer_of (Err x)) wants.memory in absurd (cc)
 turn_of call (Err e) is (inr (inr faults)) =
@@ -164,7 +164,7 @@ ends_come P t (Err e) all = all
 
 named_touched : (P : ℕ → Type 0) (s : State) (call : FueledCall) (answered : Bool)
     → All P (if answered then come_to_by s call else []) → All P (if answered then named_by s call else [])
-named_touched P s call true all = ends_come P s.tree (row s.guest call) all
+named_touched P s call true all = ends_come P s.tree (call_spec s.guest call) all
 named_touched P s call false all = all
 
 -- an answer is Ok where the result is
@@ -176,22 +176,22 @@ success_same (Err (Exit status)) {a} is = let same : a ≡ answers.Exit status =
 success_same (Err Memory) is = absurd (cc)
 
 -- an answered call touches the nodes at which its paths end
-pub turn_ends : {rose : Type 0} {w v : World} {g g' : Guest} {call : FueledCall} {r : Result Value P1Error} {answer : Answer}
+pub turn_ends : {rose : Type 0} {w v : HostModel} {g g' : Guest} {call : FueledCall} {r : Result Value P1Error} {answer : Answer}
     → answer_of r ≡ Some answer → Turns rose w v g g' call r
-    → All (λ n. contains v.touched n ≡ true) (ends_of (turned (in_world w g) call answer (in_world v g')))
+    → All (λ n. contains v.touched n ≡ true) (ends_of (turned (in_model w g) call answer (in_model v g')))
 turn_ends {w = w} {v = v} {g = g} {call = call} {r = r} is takes =
     subst (All (λ n. contains v.touched n ≡ true))
-    (ap (λ b. if b then named_by (in_world w g) call else []) (sym (success_same r is)))
-    (named_touched (λ n. contains v.touched n ≡ true) (in_world w g) call (is_ok r) takes.touched.ends)
+    (ap (λ b. if b then named_by (in_model w g) call else []) (sym (success_same r is)))
+    (named_touched (λ n. contains v.touched n ≡ true) (in_model w g) call (is_ok r) takes.touched.ends)
 
 -- one call more
-module _ {before now after : FaultCount} {start : State} {w v : World} {g g' : Guest} {calls : List FueledCall}
+module _ {before now after : FaultCount} {start : State} {w v : HostModel} {g g' : Guest} {calls : List FueledCall}
     {answered : List Answer} {call : FueledCall}
     {r : Result Value P1Error} {answer : Answer} (is : answer_of r ≡ Some answer) (cause : Causes now after r)
     (takes : Turns (Rose now after) w v g g' call r)
-    (so : SoFar before now start calls answered (in_world w g) w.touched) where
+    (so : SoFar before now start calls answered (in_model w g) w.touched) where
   abbrev t : TraceStep
-  t = turned (in_world w g) call answer (in_world v g')
+  t = turned (in_model w g) call answer (in_model v g')
 
   still_touched : All (λ n. contains v.touched n ≡ true) (named so.turns)
   still_touched =
@@ -211,7 +211,7 @@ module _ {before now after : FaultCount} {start : State} {w v : World} {g g' : G
   taken = takes_of before now after cause.later so.allowed (turn_of call r is takes.turn)
 
   pub turned_on : ends answer ≡ false
-      → SoFar before after start (calls ++ call ∷ []) (answered ++ answer ∷ []) (in_world v g') v.touched
+      → SoFar before after start (calls ++ call ∷ []) (answered ++ answer ∷ []) (in_model v g') v.touched
   turned_on goes = record {
     turns = so.turns ++ t ∷ [];
     faults = so.faults + taken.spent;
@@ -228,10 +228,10 @@ module _ {before now after : FaultCount} {start : State} {w v : World} {g g' : G
 
   -- an answer ends the run
   pub ended : (more : List FueledCall) → ends answer ≡ true
-      → RefinesTrace before after start (calls ++ call ∷ more) (answered ++ answer ∷ []) (in_world v g') v.touched
+      → RefinesTrace before after start (calls ++ call ∷ more) (answered ++ answer ∷ []) (in_model v g') v.touched
   ended more stops =
-      let run : Trace (so.faults + (taken.spent + 0)) start (calls ++ call ∷ more) (so.turns ++ t ∷ []) (in_world v g') =
-      so.on (taken.spent + 0) (call ∷ more) (t ∷ []) (in_world v g') (0, refl, refl, taken.spends 0, rw stops (refl, refl)) in
+      let run : Trace (so.faults + (taken.spent + 0)) start (calls ++ call ∷ more) (so.turns ++ t ∷ []) (in_model v g') =
+      so.on (taken.spent + 0) (call ∷ more) (t ∷ []) (in_model v g') (0, refl, refl, taken.spends 0, rw stops (refl, refl)) in
       record {
         turns = so.turns ++ t ∷ [];
         faults = so.faults + (taken.spent + 0);
@@ -277,8 +277,8 @@ wanted_memory {r = Err (Exit status)} is = absurd (cc)
 wanted_memory {r = Err Memory} is = refl
 
 -- it leaves the state
-wanted_same : {rose : Type 0} {w v : World} {g g' : Guest} {call : FueledCall} {r : Result Value P1Error} → answer_of r ≡ None
-    → Turns rose w v g g' call r → in_world v g' ≡ in_world w g
+wanted_same : {rose : Type 0} {w v : HostModel} {g g' : Guest} {call : FueledCall} {r : Result Value P1Error} → answer_of r ≡ None
+    → Turns rose w v g g' call r → in_model v g' ≡ in_model w g
 wanted_same {r = Ok x} is takes = absurd (cc)
 wanted_same {r = Err (Errno e)} is takes = absurd (cc)
 wanted_same {r = Err (Trap kind)} is takes = absurd (cc)
@@ -290,15 +290,15 @@ wanted_same {r = Err Memory} is takes = elim takes.turn [
 ]
 
 -- a call for which it was wanted adds nothing
-pub stood : {before now after : FaultCount} {start : State} {w v : World} {g g' : Guest} {calls : List FueledCall} {n : ℕ}
+pub stood : {before now after : FaultCount} {start : State} {w v : HostModel} {g g' : Guest} {calls : List FueledCall} {n : ℕ}
     {answered : List Answer}
     {call : FueledCall} {r : Result Value P1Error} → answer_of r ≡ None → Causes now after r
     → Turns (Rose now after) w v g g' call r
-    → length answered ≡ n → GoOn answered → SoFar before now start (take n calls) answered (in_world w g) w.touched
-    → StoodAt before after start calls n (in_world v g') v.touched
+    → length answered ≡ n → GoOn answered → SoFar before now start (take n calls) answered (in_model w g) w.touched
+    → StoodAt before after start calls n (in_model v g') v.touched
 stood {before = before} {now = now} {after = after} {start = start} {w = w} {v = v} {g' = g'} {calls = calls} {n = n} {answered = answered} is cause takes sized goes so =
-    let run : Trace (so.faults + 0) start (take n calls) so.turns (in_world v g') =
-    rw (append-nil, append-nil) at (so.on 0 [] [] (in_world v g') (wanted_same is takes)) in
+    let run : Trace (so.faults + 0) start (take n calls) so.turns (in_model v g') =
+    rw (append-nil, append-nil) at (so.on 0 [] [] (in_model v g') (wanted_same is takes)) in
     record {
       answers = answered;
       count = sized;

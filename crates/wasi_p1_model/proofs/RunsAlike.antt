@@ -4,7 +4,7 @@ use Rattle.wasi_host.specs.Agree.{OrMade}
 use Rattle.wasi_host.specs.Tree.{next_of}
 use Rattle.wasi_p1_types.specs.Guest.{State}
 use Rattle.wasi_p1_types.specs.CallResult.{CallResult}
-use Rattle.wasi_p1_model.specs.Calls.{row, turn}
+use Rattle.wasi_p1_model.specs.Calls.{call_spec, turn}
 use Rattle.wasi_p1_model.specs.StatesAgree.{Alike, AnswerAlike}
 use Rattle.wasi_p1_model.specs.Trace.{TraceStep, Trace, Gives, ends, answer_of, answers_of}
 use Rattle.wasi_guest.specs.declared.answer.Answer.{Answer}
@@ -13,7 +13,7 @@ use Rattle.wasi_p1_types.specs.Front.{FueledCall}
 use Rattle.wasi_guest.specs.declared.answer.Value.{Value}
 use Rattle.wasi_host.proofs.Agreeing.{none_made, once, twice}
 use Rattle.wasi_p1_model.proofs.Alike.{turn_alike}
-use Rattle.wasi_p1_model.proofs.Confining.{row_grows}
+use Rattle.wasi_p1_model.proofs.Confining.{spec_grows}
 use Rattle.wasi_p1_model.proofs.RunLaws.{Rest, FirstTurn, first_turn}
 
 -- the same set, said in another way
@@ -54,9 +54,9 @@ pub record RunAlike (Seen : ℕ → Type 0) (old old' : State) (calls : List Fue
 
 -- a turn over a state that is alike
 pub record TurnAlike (Seen : ℕ → Type 0) (s s' mid : State) (answer : Answer)
-    (row' : CallResult (Value × State)) : Type 0 where
+    (call_spec' : CallResult (Value × State)) : Type 0 where
   pub mid' : State
-  pub gives : Gives row' s' answer mid'
+  pub gives : Gives call_spec' s' answer mid'
   pub after : AlikeAfter Seen s mid mid'
 
 gives_alike : {Seen : ℕ → Type 0} {s s' mid : State} {answer : Answer} (m m' : CallResult (Value × State)) → Alike Seen s s'
@@ -117,7 +117,7 @@ first_alike : {Seen : ℕ → Type 0} {old old' new : State} {call : FueledCall}
     → RunAlike Seen old old' (call ∷ calls) (t ∷ turns) new
 first_alike {Seen} {old} {old'} {new} {call} {calls} {t} further alike first =
     let one = gives_alike (turn old call) (turn old' call) alike (turn_alike alike call)
-    (λ p is. row_grows old.tree (row old.guest call) p is) first.gives in
+    (λ p is. spec_grows old.tree (call_spec old.guest call) p is) first.gives in
     step call (ends t.answer) refl further one first.rest
 
 pub runs_alike : (calls : List FueledCall) {Seen : ℕ → Type 0} {old old' : State} (new : State) (turns : List TraceStep)

@@ -6,7 +6,7 @@ use Rattle.wasi_host.specs.HostCall.{HostCall, SetTimes}
 use Rattle.wasi_host.specs.Answer.{HostAnswer}
 use Rattle.wasi_host.specs.Refusal.{refusal}
 use Rattle.wasi_host.specs.Step.{found_by, starts_of}
-use Rattle.wasi_host.specs.HostLaws.{World, Handles}
+use Rattle.wasi_host.specs.HostLaws.{HostModel, Handles}
 use Rattle.wasi_host.specs.declared.errors.ErrorCode.TheVariants.{Io}
 use Rattle.wasi_host.specs.declared.errors.HostError.{HostError}
 use Rattle.wasi_host.specs.declared.errors.HostError.TheVariants.{Code, Memory}
@@ -18,7 +18,7 @@ use Rattle.wasi_p1_types.specs.Request.{Direct}
 use Rattle.wasi_p1_types.specs.declared.error.P1Error.TheVariants.{Memory as Wanted}
 use Rattle.wasi_p1_model.proofs.Resolving.{resolved_ok, resolved_err}
 
-module _ {A : Type 0} {live : Handles} {w v : World} {call : HostCall} {n : ℕ} {shown : A → HostAnswer call} {rose : Type 0} where
+module _ {A : Type 0} {live : Handles} {w v : HostModel} {call : HostCall} {n : ℕ} {shown : A → HostAnswer call} {rose : Type 0} where
   -- by a call that comes to the one node
   pub called_ok : {a : A} → found_by w.tree call ≡ n ∷ [] → Resolved live w v (asks_at w.tree call n) shown (Ok a)
       → Asked rose w v (Direct call) (Ok (shown a))
@@ -45,7 +45,7 @@ not_wanted (Code code) never is = absurd (cc)
 
 -- ---- times, which no row refuses
 
-module _ {live : Handles} {w v : World} {n : ℕ} {atime mtime : Option SystemTime} {rose : Type 0} where
+module _ {live : Handles} {w v : HostModel} {n : ℕ} {atime mtime : Option SystemTime} {rose : Type 0} where
   pub set_ok : Resolved {A = Unit {0}} live w v (sets w.tree n atime mtime) (λ unit. unit) (Ok tt)
       → Asked rose w v (Direct (SetTimes n atime mtime)) (Ok tt)
   unfolding refusal

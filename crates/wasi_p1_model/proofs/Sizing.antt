@@ -7,7 +7,7 @@ use Rattle.std.specs.FinSet.{contains}
 use Rattle.wasi_host.specs.Agree.{Touches}
 use Rattle.wasi_host.specs.Answer.{host_answer, metadata_of}
 use Rattle.wasi_host.specs.HostCall.{Stat}
-use Rattle.wasi_host.specs.HostLaws.{World, Handles, Told, MeansErr}
+use Rattle.wasi_host.specs.HostLaws.{HostModel, Handles, RefinesCall, MeansErr}
 use Rattle.wasi_host.specs.ValidTree.{root}
 use Rattle.wasi_host.specs.declared.errors.ErrorCode.{ErrorCode}
 use Rattle.wasi_host.specs.declared.errors.ErrorCode.TheVariants.{Io}
@@ -32,24 +32,24 @@ use Rattle.wasi_p1_model.proofs.Appending.{look, seen, touched_one, with_ends}
 use Rattle.wasi_p1_model.proofs.Reading.{keeps_all}
 
 -- looks leave the tree, and touch no other nodes
-pub record Sized (live : Handles) (w v : World) (ns : List ℕ) : Type 0 where
+pub record Sized (live : Handles) (w v : HostModel) (ns : List ℕ) : Type 0 where
   pub keeps : (h : ℕ) → contains live h ≡ true → v.held h ≡ w.held h
   pub tree : v.tree ≡ w.tree
   pub touched : Touches w.tree w.tree ns [] w.touched v.touched
 
 -- these nodes were come to
-abbrev pub Touched : World → List ℕ → Type 0
+abbrev pub Touched : HostModel → List ℕ → Type 0
 Touched v ns = All (λ n. contains v.touched n ≡ true) ns
 
 -- why one isn't answered
 abbrev pub Unsized : Type 0 → P1Error → Type 0
 Unsized rose e = (e ≡ Memory) ⊎ ((e ≡ Errno errnos.Io) × rose)
 
-pub sized_none : {live : Handles} {w : World} {ns : List ℕ} → Sized live w w ns
+pub sized_none : {live : Handles} {w : HostModel} {ns : List ℕ} → Sized live w w ns
 sized_none = record { keeps = λ h is. refl; tree = refl; touched = touches_same refl }
 
 -- one look after others
-pub sized_then : {live mid : Handles} {w u v : World} {ns ms : List ℕ} → mid ≡ live → Sized live w u ns → Sized mid u v ms
+pub sized_then : {live mid : Handles} {w u v : HostModel} {ns ms : List ℕ} → mid ≡ live → Sized live w u ns → Sized mid u v ms
     → ((n : ℕ) → Contains ms n → Contains ns n) → Sized live w v ns
 sized_then {w = w} {u} {v} {ms = ms} same first second each = record {
   keeps = λ h is. second.keeps h (subst (λ s. contains s h ≡ true) (sym same) is) ∙ first.keeps h is;
@@ -68,7 +68,7 @@ why (inl is) = absurd (cc)
 why (inr (inl is)) = inl (cc)
 why (inr (inr (is, rose))) = inr ((cc), rose)
 
-module _ {rose : Type 0} {live : Handles} {w v : World} {ns : List ℕ} where
+module _ {rose : Type 0} {live : Handles} {w v : HostModel} {ns : List ℕ} where
   pub makes_sizes : {xs : List ℕ} → Sized live w v ns → Touched v ns → xs ≡ map (size_at w.tree) ns
       → Makes rose live w v (Sizes ns) give (Ok xs)
   makes_sizes {xs} sized came are = record {
@@ -125,25 +125,25 @@ module _ {rose : Type 0} {live : Handles} {w v : World} {ns : List ℕ} where
 
 -- ---- one look, which no row refuses
 
-module _ {live new : Handles} {w v : World} {n : ℕ} (same : new ≡ live) where
-  one_sized : (result : Result Metadata HostError) → Told {A = Metadata} live new w v (Stat n) (λ m. m) result
+module _ {live new : Handles} {w v : HostModel} {n : ℕ} (same : new ≡ live) where
+  one_sized : (result : Result Metadata HostError) → RefinesCall {A = Metadata} live new w v (Stat n) (λ m. m) result
       → Sized live w v (n ∷ [])
-  one_sized result told =
-      let looked = look n result told.after in
-      record { keeps = keeps_all w v same told.keeps; tree = looked.tree; touched = looked.touched w.tree w.tree }
+  one_sized result modelled =
+      let looked = look n result modelled.after in
+      record { keeps = keeps_all w v same modelled.keeps; tree = looked.tree; touched = looked.touched w.tree w.tree }
 
-  pub size_ok : {rose : Type 0} {metadata : Metadata} → Told {A = Metadata} live new w v (Stat n) (λ m. m) (Ok metadata)
+  pub size_ok : {rose : Type 0} {metadata : Metadata} → RefinesCall {A = Metadata} live new w v (Stat n) (λ m. m) (Ok metadata)
       → Makes rose live w v (Sizes (n ∷ [])) give (Ok (metadata.size ∷ []))
-  size_ok {metadata = metadata} told =
-      let is = sym told.meaning ∙ seen w.tree n in
+  size_ok {metadata = metadata} modelled =
+      let is = sym modelled.meaning ∙ seen w.tree n in
       let same : metadata ≡ metadata_of w.tree n = (cc) in
-      let came : Touches w.tree w.tree (n ∷ []) (n ∷ []) w.touched v.touched = touched_one told.after.touched in
-      makes_sizes (one_sized (Ok metadata) told) came.ends (ap (λ m. m.size ∷ []) same)
+      let came : Touches w.tree w.tree (n ∷ []) (n ∷ []) w.touched v.touched = touched_one modelled.after.touched in
+      makes_sizes (one_sized (Ok metadata) modelled) came.ends (ap (λ m. m.size ∷ []) same)
 
   pub size_err : {rose : Type 0} {code : ErrorCode} → ((let r : Result Metadata HostError = Err (Code code) in r) ≡ Err (Code Io) → rose)
-      → Told {A = Metadata} live new w v (Stat n) (λ m. m) (Err (Code code))
+      → RefinesCall {A = Metadata} live new w v (Stat n) (λ m. m) (Err (Code code))
       → Makes rose live w v (Sizes (n ∷ [])) give (Err (Errno (errno_of code)))
-  size_err {rose} {code} io told = by code io told.meaning (one_sized (Err (Code code)) told)
+  size_err {rose} {code} io modelled = by code io modelled.meaning (one_sized (Err (Code code)) modelled)
     where
       by : (code : ErrorCode) → ((let r : Result Metadata HostError = Err (Code code) in r) ≡ Err (Code Io) → rose)
           → MeansErr (host_answer w.tree (Stat n)) (Code code) → Sized live w v (n ∷ [])
@@ -154,7 +154,7 @@ module _ {live new : Handles} {w v : World} {n : ℕ} (same : new ≡ live) wher
 -- ---- of all that is waited for
 
 -- handles stand for what they stood for
-held_same : (live : Handles) (w v : World) (what : Awaited) → ((h : ℕ) → contains live h ≡ true → v.held h ≡ w.held h)
+held_same : (live : Handles) (w v : HostModel) (what : Awaited) → ((h : ℕ) → contains live h ≡ true → v.held h ≡ w.held h)
     → OfReading (λ file. contains live file ≡ true) what → nodes_in (awaited_by v.held what) ≡ nodes_in (awaited_by w.held what)
 held_same live w v (awaiteds.FileToRead file position) keeps is = ap (λ (held : OpenHandle). held.node ∷ []) (keeps file is)
 held_same live w v (awaiteds.Clock end) keeps is = refl
@@ -186,7 +186,7 @@ item_among held ws i item within is n has =
     (Contains-append_left (nodes_in (awaited_by held item.what)) (nodes_from held ws (i + 1)) n has))
 
 -- the sizes so far, how the world stands then, and the nodes that were looked at
-pub record SizedSo (live : Handles) (w v : World) (ws : List Waited) (i : ℕ) (sizes : List ℕ) : Type 0 where
+pub record SizedSo (live : Handles) (w v : HostModel) (ws : List Waited) (i : ℕ) (sizes : List ℕ) : Type 0 where
   pub sized : Sized live w v (nodes_read (map (waited_by w.held) ws))
   pub seen : List ℕ
   pub seen_are : seen ++ nodes_from w.held ws i ≡ nodes_read (map (waited_by w.held) ws)
@@ -194,12 +194,12 @@ pub record SizedSo (live : Handles) (w v : World) (ws : List Waited) (i : ℕ) (
   pub sizes_are : sizes ++ map (size_at w.tree) (nodes_from w.held ws i)
       ≡ map (size_at w.tree) (nodes_read (map (waited_by w.held) ws))
 
-pub none_sized : {live : Handles} {w : World} {ws : List Waited} {sizes : List ℕ} → sizes ≡ [] → SizedSo live w w ws 0 sizes
+pub none_sized : {live : Handles} {w : HostModel} {ws : List Waited} {sizes : List ℕ} → sizes ≡ [] → SizedSo live w w ws 0 sizes
 none_sized is =
     record { sized = sized_none; seen = []; seen_are = refl; came = All-nil _; sizes_are = rw is refl }
 
 -- one more
-module _ {live mid : Handles} {w u v : World} {ws : List Waited} {i : ℕ} {sizes : List ℕ} (item : Waited) (within : i < length ws)
+module _ {live mid : Handles} {w u v : HostModel} {ws : List Waited} {i : ℕ} {sizes : List ℕ} (item : Waited) (within : i < length ws)
     (is : item ≡ slice_index_or ws i item) (same : mid ≡ live)
     (all : All (λ (w : Waited). OfReading (λ file. contains live file ≡ true) w.what) ws) (so_far : SizedSo live w u ws i sizes) where
   pub one_sized_more : {rose : Type 0} {xs : List ℕ} → Makes rose mid u v (Sizes (nodes_in (awaited_by u.held item.what))) give (Ok xs)
@@ -237,7 +237,7 @@ module _ {live mid : Handles} {w u v : World} {ws : List Waited} {i : ℕ} {size
       makes_none (sized_then same so_far.sized sized (λ n has. item_among w.held ws i item within is n
       (subst (λ ns. Contains ns n) theirs has))) (elim why [ inl is ↦ inl is | inr (io, rose) ↦ inr (io, on rose) ])
 
-pub all_sized : {rose : Type 0} {live : Handles} {w v : World} {ws : List Waited} {i : ℕ} {sizes : List ℕ} → length ws ≤ i
+pub all_sized : {rose : Type 0} {live : Handles} {w v : HostModel} {ws : List Waited} {i : ℕ} {sizes : List ℕ} → length ws ≤ i
     → SizedSo live w v ws i sizes → Makes rose live w v (Sizes (nodes_read (map (waited_by w.held) ws))) give (Ok sizes)
 unfolding nodes_read
 all_sized {w = w} {v = v} {ws = ws} {i} {sizes} behind so_far =

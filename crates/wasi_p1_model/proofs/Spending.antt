@@ -16,7 +16,7 @@ use Rattle.wasi_p1_types.specs.Spending.{grown_in, growing, making, may_make, wi
 use Rattle.wasi_p1_types.specs.GuestEnvModel.{GuestEnvModel}
 use Rattle.wasi_p1_model.specs.Writing.{with_grown}
 use Rattle.wasi_p1_types.specs.declared.quotas.Allowance.{Allowance}
-use Rattle.wasi_p1_model.proofs.Alike.{row_on}
+use Rattle.wasi_p1_model.proofs.Alike.{spec_on}
 use Rattle.wasi_p1_model.proofs.Lengthening.{bounded_by}
 use Rattle.wasi_p1_model.proofs.Listings.{both_ok}
 use Rattle.wasi_p1_model.proofs.Moving.{Replied, replied_by}
@@ -59,14 +59,14 @@ abbrev pub with_made : Bool → Guest → Guest
 with_made makes g = record g { holdings = counted_makings makes g.holdings }
 
 pub gave_making : {p : Value × State} (t : Tree) (makes : Bool) (g : Guest) (r : Request)
-    (next : Reply r → CallResult (Value × Guest)) (fuel : ℕ) → row_on t (making makes g (ask r next) fuel).0 ≡ Ok p
+    (next : Reply r → CallResult (Value × Guest)) (fuel : ℕ) → spec_on t (making makes g (ask r next) fuel).0 ≡ Ok p
     → Counts (with_made makes) t r next p
 gave_making {p} t false g r next fuel is =
     record { guest = p.1.guest; within = replied_by t r next is; counted = refl }
 gave_making {p} t true g r next fuel is = by (may_make g.holdings) is
   where
     by : (m : CallResult (Unit {0}))
-        → row_on t (m >>= (λ _. Ok (asking r (λ reply. next reply >>= (λ q. give (with_making q)))))) ≡ Ok p
+        → spec_on t (m >>= (λ _. Ok (asking r (λ reply. next reply >>= (λ q. give (with_making q)))))) ≡ Ok p
         → Counts (with_made true) t r next p
     by (Err e) is = absurd (cc)
     by (Ok left) is =
@@ -80,7 +80,7 @@ growth_under None t w = 0
 growth_under (Some limit) t w = growth_at t limit w
 
 pub gave_growing : {p : Value × State} (t : Tree) (limit : Option Allowance) (w : Request)
-    (next : Reply w → CallResult (Value × Guest)) (fuel : ℕ) → row_on t (growing limit (ask w next) fuel).0 ≡ Ok p
+    (next : Reply w → CallResult (Value × Guest)) (fuel : ℕ) → spec_on t (growing limit (ask w next) fuel).0 ≡ Ok p
     → Counts (with_grown (growth_under limit t w)) t w next p
 gave_growing t None w next fuel is =
     let did = replied_by t w _ is in counts (with_grown 0) w next did.reply did.is did.tree did.gives
@@ -90,9 +90,9 @@ gave_growing {p} t (Some limit) w next fuel is =
     by : (reply : Option (ℕ × Reply w)) → reply_of t (Grow limit w) ≡ Ok reply → p.1.tree ≡ after t (Grow limit w)
         → (grown_in (Some limit) w reply >>= (λ grown. next grown.1 >>= (λ q. give (with_growth grown.0 q)))) ≡ Ok (p.0, p.1.guest)
         → Counts (with_grown (growth_at t limit w)) t w next p
-    by None told tree gives = absurd (cc)
-    by (Some (growth, reply)) told tree gives =
-        let did = bounded_by t limit w (Some (growth, reply)) told in
+    by None modelled tree gives = absurd (cc)
+    by (Some (growth, reply)) modelled tree gives =
+        let did = bounded_by t limit w (Some (growth, reply)) modelled in
         subst (λ n. Counts (with_grown n) t w next p) did.growth
         (counts (with_grown growth) w next reply did.is (tree ∙ did.does) gives)
 

@@ -2,7 +2,7 @@
 use Rattle.std.proofs.Common.{ℕ, ◌≡◌, ◌≢◌, inl, inr, false, List, refl, ap, sym, ◌∙◌, subst, arith, slice_get, slice_set, Option, Some, None}
 use Rattle.std.specs.Option.{option_map}
 use Rattle.std.proofs.lemmas.Option.{slice_get-map, slice_get_within}
-use Rattle.wasi_host.specs.Lineage.{Nothing}
+use Rattle.wasi_host.specs.Provenance.{Nothing}
 use Rattle.wasi_streams.proofs.OneChanged.{set_cases, push_cases}
 use Rattle.wasi_p1_types.specs.Numbering.{last_where, put_at, with_new}
 use Rattle.wasi_p1_model.specs.Owners.{handle_in, handles, HasHandle, SlotsStay}

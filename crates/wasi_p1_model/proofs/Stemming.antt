@@ -12,28 +12,28 @@ use Rattle.wasi_guest.specs.declared.errno.Errno.TheVariants as errnos
 use Rattle.wasi_host.specs.Tree.{Tree}
 use Rattle.wasi_p1_types.specs.Guest.{Guest, State, perms_in}
 use Rattle.wasi_p1_types.specs.CallResult.{CallResult, Program, done, asking}
-use Rattle.wasi_p1_model.specs.Calls.{Stem, itself, through, renumbering, stem_in, row, turn}
+use Rattle.wasi_p1_model.specs.Calls.{Stem, itself, through, renumbering, stem_in, call_spec, turn}
 use Rattle.wasi_p1_model.specs.Trace.{TraceStep, Trace, Played, Faulted, Gives, answer_of, ends, is_success}
 use Rattle.wasi_p1_model.specs.Stems.{stems_by, stems_from, stem_of, HasPerms}
 use Rattle.wasi_p1_types.specs.declared.error.P1Error.{P1Error}
 use Rattle.wasi_p1_types.specs.declared.error.P1Error.TheVariants.{Errno, Trap, Exit, Memory}
-use Rattle.wasi_p1_model.proofs.Alike.{row_on}
+use Rattle.wasi_p1_model.proofs.Alike.{spec_on}
 use Rattle.wasi_p1_model.proofs.Moving.{over_guest, replied_by, faulted_stays, turned_by}
 use Rattle.wasi_p1_model.proofs.LocalCalls.{IsLocal, KeepsSlots, given_by}
-use Rattle.wasi_p1_model.proofs.Locality.{row_near}
+use Rattle.wasi_p1_model.proofs.Locality.{spec_near}
 
 -- the descriptors after an answer stem from those before it
 abbrev AllStem : Guest → Call → Answer → Guest → Type 0
 AllStem g call answer g' = (n : ℕ) (perms : FsPerms) → HasPerms g' n perms → HasPerms g (stems_from call answer n) perms
 
-row_stems : (g : Guest) (call : Call) (t : Tree) (m : CallResult (Program (Value × Guest))) (p : Value × State)
-    → IsLocal g call m → row_on t m ≡ Ok p → AllStem g call (answers.Ok p.0) p.1.guest
-row_stems g call t (Ok (done q)) p near is =
+spec_stems : (g : Guest) (call : Call) (t : Tree) (m : CallResult (Program (Value × Guest))) (p : Value × State)
+    → IsLocal g call m → spec_on t m ≡ Ok p → AllStem g call (answers.Ok p.0) p.1.guest
+spec_stems g call t (Ok (done q)) p near is =
     (subst (KeepsSlots g (stem_in call) []) (over_guest t (Ok q) is) near.slots).perms
-row_stems g call t (Ok (asking r next)) p near is =
+spec_stems g call t (Ok (asking r next)) p near is =
     let did = replied_by t r next is in
     (subst (KeepsSlots g (stem_in call) (given_by r did.reply)) did.gives (near.slots did.reply)).perms
-row_stems g call t (Err e) p near is = absurd (cc)
+spec_stems g call t (Err e) p near is = absurd (cc)
 
 -- where it isn't answered Ok each descriptor stems from itself
 from_itself : (stem : Stem) (e : P1Error) {answer : Answer} (n : ℕ) → answer_of (Err e) ≡ Some answer
@@ -64,8 +64,8 @@ turn_stems t (inl played) n perms has = by (turn t.before t.call) refl played
     by : (m : CallResult (Value × State)) → turn t.before t.call ≡ m → Gives m t.before t.answer t.after
         → HasPerms t.before.guest (stems_from t.call.call t.answer n) perms
     by (Ok p) is (answer, new) =
-        let stems = row_stems t.before.guest t.call.call t.before.tree (row t.before.guest t.call) p
-        (row_near t.before.guest t.call) is in
+        let stems = spec_stems t.before.guest t.call.call t.before.tree (call_spec t.before.guest t.call) p
+        (spec_near t.before.guest t.call) is in
         subst (λ a. HasPerms t.before.guest (stems_from t.call.call a n) perms) (sym answer)
         (stems n perms (subst (λ (s : State). HasPerms s.guest n perms) new has))
     by (Err e) is (answer, same) =
@@ -79,14 +79,14 @@ turn_stems t (inr faulted) n perms has =
 
 -- ---- how many numbers are given
 
-row_fits : (most : ℕ) (g : Guest) (call : Call) (t : Tree) (m : CallResult (Program (Value × Guest))) (p : Value × State)
-    → IsLocal g call m → row_on t m ≡ Ok p → FitsTable most g → FitsTable most p.1.guest
-row_fits most g call t (Ok (done q)) p near is =
+spec_fits : (most : ℕ) (g : Guest) (call : Call) (t : Tree) (m : CallResult (Program (Value × Guest))) (p : Value × State)
+    → IsLocal g call m → spec_on t m ≡ Ok p → FitsTable most g → FitsTable most p.1.guest
+spec_fits most g call t (Ok (done q)) p near is =
     (subst (KeepsSlots g (stem_in call) []) (over_guest t (Ok q) is) near.slots).fits most
-row_fits most g call t (Ok (asking r next)) p near is =
+spec_fits most g call t (Ok (asking r next)) p near is =
     let did = replied_by t r next is in
     (subst (KeepsSlots g (stem_in call) (given_by r did.reply)) did.gives (near.slots did.reply)).fits most
-row_fits most g call t (Err e) p near is = absurd (cc)
+spec_fits most g call t (Err e) p near is = absurd (cc)
 
 pub numbers_fit : NumbersFit
 numbers_fit most t (inl played) fits = by (turn t.before t.call) refl played
@@ -94,8 +94,8 @@ numbers_fit most t (inl played) fits = by (turn t.before t.call) refl played
     by : (m : CallResult (Value × State)) → turn t.before t.call ≡ m → Gives m t.before t.answer t.after
         → FitsTable most t.after.guest
     by (Ok p) is (answer, new) = subst (λ (s : State). FitsTable most s.guest) (sym new)
-        (row_fits most t.before.guest t.call.call t.before.tree (row t.before.guest t.call) p
-        (row_near t.before.guest t.call) is fits)
+        (spec_fits most t.before.guest t.call.call t.before.tree (call_spec t.before.guest t.call) p
+        (spec_near t.before.guest t.call) is fits)
     by (Err e) is (answer, same) = subst (λ (s : State). FitsTable most s.guest) (sym same) fits
 numbers_fit most t (inr faulted) fits = subst (FitsTable most) (sym (faulted_stays faulted).guest) fits
 

@@ -2,15 +2,15 @@
 use Rattle.std.proofs.Common.{[], ◌≡◌, inl, inr, refl, ap, sym, ◌∙◌, subst, Result, Ok, Err}
 use Rattle.std.specs.Prelude.{is_ok, if◌then◌else◌}
 use Rattle.wasi_host.specs.Agree.{Touches}
-use Rattle.wasi_host.specs.HostLaws.{World}
+use Rattle.wasi_host.specs.HostLaws.{HostModel}
 use Rattle.wasi_host.specs.declared.errors.ErrorCode.{ErrorCode}
 use Rattle.wasi_p1_types.specs.Guest.{Guest, State}
 use Rattle.wasi_p1_types.specs.Request.{Request, Reply, reply_of, after}
 use Rattle.wasi_host.specs.Steps.{◌>>=◌}
 use Rattle.wasi_p1_types.specs.CallResult.{CallResult, Program, done, asking, from_host, Asks, starts, request_comes}
-use Rattle.wasi_p1_model.specs.Calls.{row}
+use Rattle.wasi_p1_model.specs.Calls.{call_spec}
 use Rattle.wasi_p1_model.specs.Transition.{IsTransition, Faults, AfterFault, used_by}
-use Rattle.wasi_p1_model.specs.CallTransition.{Turns, in_world}
+use Rattle.wasi_p1_model.specs.CallTransition.{Turns, in_model}
 use Rattle.wasi_p1_types.specs.Asked.{Asked, Hidden, GivesOrElse, TreeAfterRequest}
 use Rattle.wasi_guest.specs.declared.call.Call.{Call}
 use Rattle.wasi_p1_types.specs.Front.{FueledCall}
@@ -20,37 +20,37 @@ use Rattle.wasi_p1_types.specs.declared.error.P1Error.TheVariants.{Errno, Memory
 use Rattle.wasi_guest.specs.declared.answer.Value.{Value}
 use Rattle.wasi_p1_model.proofs.LocalCalls.{Ends, IsLocal, AsksNear}
 use Rattle.wasi_host.proofs.Touching.{touches_same, no_ends}
-use Rattle.wasi_p1_model.proofs.Alike.{over, replied, row_on}
-use Rattle.wasi_p1_model.proofs.Locality.{row_near}
+use Rattle.wasi_p1_model.proofs.Alike.{over, replied, spec_on}
+use Rattle.wasi_p1_model.proofs.Locality.{spec_near}
 
 -- the turn of a row
-abbrev RowTurns : Type 0 → World → World → Guest → Guest → Guest → CallResult (Program (Value × Guest)) → Result Value P1Error
+abbrev SpecTurns : Type 0 → HostModel → HostModel → Guest → Guest → Guest → CallResult (Program (Value × Guest)) → Result Value P1Error
     → Type 0
-RowTurns rose w v g g' used m result =
-    IsTransition rose (Asks m) used (in_world w g) (in_world v g') result (row_on w.tree m)
+SpecTurns rose w v g g' used m result =
+    IsTransition rose (Asks m) used (in_model w g) (in_model v g') result (spec_on w.tree m)
     × Touches w.tree v.tree (starts m) (if is_ok result then request_comes w.tree m else []) w.touched v.touched
 
-turns : {rose : Type 0} {w v : World} {g g' : Guest} {call : FueledCall} {result : Result Value P1Error}
+turns : {rose : Type 0} {w v : HostModel} {g g' : Guest} {call : FueledCall} {result : Result Value P1Error}
     (m : CallResult (Program (Value × Guest)))
-    → m ≡ row g call → RowTurns rose w v g g' (used_by (in_world w g) call) m result → Turns rose w v g g' call result
+    → m ≡ call_spec g call → SpecTurns rose w v g g' (used_by (in_model w g) call) m result → Turns rose w v g g' call result
 turns {rose} {w} {v} {g} {g'} {call} {result} m is both =
-    let used = used_by (in_world w g) call in
-    let at : RowTurns rose w v g g' used (row g call) result =
-    subst (λ x. RowTurns rose w v g g' used x result) is both in
+    let used = used_by (in_model w g) call in
+    let at : SpecTurns rose w v g g' used (call_spec g call) result =
+    subst (λ x. SpecTurns rose w v g g' used x result) is both in
     record { turn = at.0; touched = at.1 }
 
 -- a refusal before the host
-pub refused : {rose : Type 0} {w : World} {g : Guest} {call : FueledCall} {e : P1Error} → Err e ≡ row g call
+pub refused : {rose : Type 0} {w : HostModel} {g : Guest} {call : FueledCall} {e : P1Error} → Err e ≡ call_spec g call
     → Turns rose w w g g call (Err e)
-refused {e = e} is = turns (Err e) is (inl (record { stays = refl; row_is = refl }), touches_same refl)
+refused {e = e} is = turns (Err e) is (inl (record { stays = refl; spec_is = refl }), touches_same refl)
 
 -- memory was wanted
-pub wants_memory : {rose : Type 0} {w : World} {g : Guest} {call : FueledCall} → Turns rose w w g g call (Err Memory)
+pub wants_memory : {rose : Type 0} {w : HostModel} {g : Guest} {call : FueledCall} → Turns rose w w g g call (Err Memory)
 wants_memory {g = g} {call = call} =
-    turns (row g call) refl (inr (inl (record { memory = refl; stays = refl })), touches_same refl)
+    turns (call_spec g call) refl (inr (inl (record { memory = refl; stays = refl })), touches_same refl)
 
 -- an answer without a request
-pub answered : {rose : Type 0} {w v : World} {g g' : Guest} {call : FueledCall} {x : Value} → Ok (done (x, g')) ≡ row g call
+pub answered : {rose : Type 0} {w v : HostModel} {g g' : Guest} {call : FueledCall} {x : Value} → Ok (done (x, g')) ≡ call_spec g call
     → v.tree ≡ w.tree → v.touched ≡ w.touched
     → Turns rose w v g g' call (Ok x)
 answered {g' = g'} {x = x} is tree touched = turns (Ok (done (x, g'))) is (
@@ -98,7 +98,7 @@ module _ {rose : Type 0} {s s' : State} {used : Guest} {e : P1Error} where
   -- the row's refusal; or the host failed
   refuses : {m : CallResult (Value × State)} → m ≡ Err e → Still rose s s' used e
       → IsTransition rose (Unit {0}) used s s' (Err e) m
-  refuses is (still same) = inl (record { stays = same; row_is = is })
+  refuses is (still same) = inl (record { stays = same; spec_is = is })
   refuses is (used_up io up counts) =
       inr (inr (record { io = io; count = up; came = tt; state = inr (inl counts) }))
 
@@ -160,11 +160,11 @@ module _ {rose : Type 0} {s s' : State} {used : Guest} {e : P1Error} where
     err_turns tree (inr (inr is)) = let io = is.0 in inr (inr (failed tree (cc) is.1))
 
 near_at : (g : Guest) (call : FueledCall) {r : Request} {next : Reply r → CallResult (Value × Guest)}
-    → Ok (asking r next) ≡ row g call → AsksNear g call.call r next
-near_at g call front = subst (IsLocal g call.call) (sym front) (row_near g call)
+    → Ok (asking r next) ≡ call_spec g call → AsksNear g call.call r next
+near_at g call front = subst (IsLocal g call.call) (sym front) (spec_near g call)
 
-module _ {rose : Type 0} {w v : World} {g g' : Guest} {call : FueledCall} {r : Request} {next : Reply r → CallResult (Value × Guest)}
-    (front : Ok (asking r next) ≡ row g call) where
+module _ {rose : Type 0} {w v : HostModel} {g g' : Guest} {call : FueledCall} {r : Request} {next : Reply r → CallResult (Value × Guest)}
+    (front : Ok (asking r next) ≡ call_spec g call) where
   -- the host answered
   pub asked_ok : {reply : Reply r} {x : Value} → Asked rose w v r (Ok reply) → next reply ≡ Ok (x, g')
       → Turns rose w v g g' call (Ok x)
@@ -176,7 +176,7 @@ module _ {rose : Type 0} {w v : World} {g g' : Guest} {call : FueledCall} {r : R
 
   -- it answered, and the row refused the reply
   module _ {e : P1Error} {reply : Reply r} (asked : Asked rose w v r (Ok reply)) (is : next reply ≡ Err e) where
-    then_refused : (v.tree ≡ w.tree → Still rose (in_world w g) (in_world v g') (used_by (in_world w g) call) e)
+    then_refused : (v.tree ≡ w.tree → Still rose (in_model w g) (in_model v g') (used_by (in_model w g) call) e)
         → Turns rose w v g g' call (Err e)
     then_refused stays =
         let near = near_at g call front in
@@ -191,7 +191,7 @@ module _ {rose : Type 0} {w v : World} {g g' : Guest} {call : FueledCall} {r : R
       → Turns rose w v g g' call (Err e)
   asked_then_err same asked is = then_refused asked is (λ tree. still (same_state same tree))
 
-  module _ {e : P1Error} (settled : Settled rose (in_world w g) (in_world v g') (used_by (in_world w g) call) e) where
+  module _ {e : P1Error} (settled : Settled rose (in_model w g) (in_model v g') (used_by (in_model w g) call) e) where
     -- the host refused, or failed, or wanted memory
     pub asked_err : Asked rose w v r (Err e) → Turns rose w v g g' call (Err e)
     asked_err asked =

@@ -10,7 +10,7 @@ use Rattle.wasi_p1_types.specs.Guest.{Guest, State}
 use Rattle.wasi_p1_types.specs.Quotas.{count_on, counted_growth, counted_makings}
 use Rattle.wasi_p1_types.specs.Request.{Request, Reply, Path, Direct, Behind, ListDirectory, Sizes, Grow, growth_in}
 use Rattle.wasi_p1_types.specs.CallResult.{CallResult, Program, asking}
-use Rattle.wasi_p1_model.specs.Calls.{row}
+use Rattle.wasi_p1_model.specs.Calls.{call_spec}
 use Rattle.wasi_p1_types.specs.Spending.{growth_of, grows, makes, spends_nothing, spent}
 use Rattle.wasi_p1_types.specs.GuestEnvModel.{GuestEnvModel}
 use Rattle.wasi_p1_model.specs.Transition.{used_by}
@@ -30,7 +30,7 @@ spent_counts false growth stock = refl
 pub used_counts : (s : State) (call : FueledCall)
     → used_by s call ≡ with_counts (used_by s call).holdings.used s.guest
 used_counts s call = ap (λ (stock : GuestEnvModel). let g : Guest = record s.guest { holdings = stock } in g)
-    (spent_counts (makes call.call) (growth_of s.tree (row s.guest call)) s.guest.holdings)
+    (spent_counts (makes call.call) (growth_of s.tree (call_spec s.guest call)) s.guest.holdings)
 
 count_none : (most : Option ℕ) (used : ℕ) → count_on most used 0 ≡ used
 count_none None used = refl
@@ -59,7 +59,7 @@ growth_nothing t (Grow limit w) none = absurd (cc)
 -- ---- the guest with the use of a call, whose row asks for this
 
 module _ (s : State) (call : FueledCall) {r : Request} {next : Reply r → CallResult (Value × Guest)}
-    (asks : Ok (asking r next) ≡ row s.guest call) where
+    (asks : Ok (asking r next) ≡ call_spec s.guest call) where
   pub used_is : used_by s call
       ≡ record s.guest { holdings = spent (makes call.call) (growth_in s.tree r) s.guest.holdings }
   used_is = ap (λ (m : CallResult (Program (Value × Guest))).

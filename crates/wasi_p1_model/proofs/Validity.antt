@@ -10,13 +10,13 @@ use Rattle.wasi_guest.specs.declared.answer.Value.{Value}
 use Rattle.wasi_guest.specs.declared.call.Call.{Call}
 use Rattle.wasi_guest.specs.declared.quota.QuotaUsed.{QuotaUsed}
 use Rattle.wasi_p1_types.specs.Front.{FueledCall}
-use Rattle.wasi_host.specs.HostLaws.{World}
+use Rattle.wasi_host.specs.HostLaws.{HostModel}
 use Rattle.wasi_host.specs.Tree.{Tree, Node, Content, names_of, File, Directory, Link, node_at, next_of, bytes_of}
 use Rattle.wasi_host.specs.ValidTree.{IsValidTree, IsValidContent, IsEntry, are_bytes}
 use Rattle.wasi_host.proofs.Changes.{node_at-past}
 use Rattle.wasi_host.proofs.EntryLemmas.{All-no_names}
 use Rattle.wasi_host.proofs.ValidSteps.{valid-step}
-use Rattle.wasi_p1_model.specs.CallTransition.{Turns, in_world}
+use Rattle.wasi_p1_model.specs.CallTransition.{Turns, in_model}
 use Rattle.wasi_p1_types.specs.Guest.{Guest, State}
 use Rattle.wasi_host.specs.HostCall.{Append, OpenAt, Pread}
 use Rattle.wasi_host.specs.HostCall as calls
@@ -27,21 +27,21 @@ use Rattle.wasi_host.specs.Answer.{Listed, unless, link_text, listed, listing, o
 use Rattle.wasi_host.specs.Refusal.{refusal}
 use Rattle.wasi_host.proofs.Chain.{free}
 use Rattle.wasi_host.proofs.Refusals.{free_of}
-use Rattle.wasi_resolve.specs.EntryOps.{EntryOp, PlaceAnswer, CreateDir, RemoveFile, RemoveDir, Symlink, ReadLink, call_at, unrooted, answer_in, place_for, step_in}
+use Rattle.wasi_resolve.specs.EntryOps.{EntryOp, EntryAnswer, CreateDir, RemoveFile, RemoveDir, Symlink, ReadLink, call_at, unrooted, answer_in, place_for, step_in}
 use Rattle.wasi_resolve.specs.EntryOps as at_place
 use Rattle.wasi_resolve.specs.TwoPathOps.{Places, places_for, asks_directory, call_at_two, answer_at_two, step_at_two}
 use Rattle.wasi_resolve.specs.Paths.{Opening, Place, opening, step_of, timed}
 use Rattle.wasi_resolve.specs.Meanings.{listing_options, lists_at}
-use Rattle.wasi_resolve.specs.PathRequest.{PathRequest, OpenPath, LookPath, AtPlace, TimesPath, AtTwo, PathReply, answer_at, as_asked, times_through, path_reply, path_after}
+use Rattle.wasi_resolve.specs.PathRequest.{PathRequest, OpenPath, LookPath, AtEntry, TimesPath, AtTwo, PathReply, answer_at, as_asked, times_through, path_reply, path_after}
 use Rattle.wasi_resolve.proofs.Requests.{as_opened}
 use Rattle.wasi_p1_types.specs.Listing.{Entry, dots, numbered_at, all_numbered_at, listing_at}
 use Rattle.wasi_p1_types.specs.Request.{Request, Reply, Path, Direct, Behind, ListDirectory, Sizes, Grow, reply_of, after}
 use Rattle.wasi_p1_types.specs.CallResult.{CallResult, Program, done, asking}
-use Rattle.wasi_p1_model.specs.Calls.{row, turn}
+use Rattle.wasi_p1_model.specs.Calls.{call_spec, turn}
 use Rattle.wasi_p1_model.specs.Validity.{RunsStayValid, HasBytes, IsValidState}
 use Rattle.wasi_p1_types.specs.declared.error.P1Error.{P1Error}
 use Rattle.wasi_host.proofs.Agreeing.{unless_value, below_or}
-use Rattle.wasi_p1_model.proofs.Alike.{row_on}
+use Rattle.wasi_p1_model.proofs.Alike.{spec_on}
 use Rattle.wasi_paths.specs.Parts.{has_root}
 use Rattle.wasi_host.specs.declared.errors.ErrorCode.TheVariants.{NotPermitted}
 use Rattle.wasi_p1_model.proofs.Bytes.{cut, used_stock}
@@ -51,7 +51,7 @@ use Rattle.wasi_p1_model.proofs.Paging.{dots_bytes}
 use Rattle.wasi_p1_model.proofs.Utf8.{text_bytes}
 use Rattle.wasi_p1_model.proofs.Moving.{Moves, turn_moves, turned_moves, run_keeps, over_tree, over_guest, replied_by}
 use Rattle.wasi_p1_model.proofs.LocalCalls.{AreBytes, AreTexts, PathGivesBytes, HasByteNames, GivesBytes, KeepsBytes, MayBeAsked, IsLocal}
-use Rattle.wasi_p1_model.proofs.Locality.{row_near}
+use Rattle.wasi_p1_model.proofs.Locality.{spec_near}
 use Rattle.wasi_p1_model.proofs.Uses.{with_counts}
 use Rattle.wasi_resolve.proofs.Asking.{HasUtf8Target, opening_asked, place_asked, places_asked, link_utf8}
 
@@ -79,7 +79,7 @@ unrooted_is text {reply} = by (has_root text)
 -- a link's text are bytes
 path_gives_bytes : (t : Tree) (p : PathRequest) (reply : PathReply p) → IsValidTree t → path_reply t p ≡ Ok reply
     → PathGivesBytes p reply
-path_gives_bytes t (AtPlace s text ReadLink) reply valid is = by (place_for t s text ReadLink) is
+path_gives_bytes t (AtEntry s text ReadLink) reply valid is = by (place_for t s text ReadLink) is
   where
     given : (p : Place) (o : Option ErrorCode)
         → (unless o (link_text t p.directory p.name) >>= unrooted) ≡ Ok reply → AreBytes reply
@@ -117,9 +117,9 @@ numbered_bytes : (t : Tree) (d : ℕ) (es : List Listed) {entries : List Entry} 
     → all_numbered_at t d es ≡ Ok entries → HasByteNames entries
 numbered_bytes t d [] {entries} all is = let same : [] ≡ entries = (cc) in subst HasByteNames same (All-nil _)
 numbered_bytes t d (e ∷ es) {entries} all is =
-    let (first, told, rest) = both_ok (numbered_at t d e) _ is in
+    let (first, modelled, rest) = both_ok (numbered_at t d e) _ is in
     let (others, later, whole) = both_ok (all_numbered_at t d es) _ rest in
-    let (metadata, looked, made) = both_ok (path_reply t (LookPath d e.0 false)) _ told in
+    let (metadata, looked, made) = both_ok (path_reply t (LookPath d e.0 false)) _ modelled in
     let name : e.0 ≡ first.name = (cc) in
     let same : first ∷ others ≡ entries = (cc) in
     subst HasByteNames same (All-cons (λ (e : Entry). AreBytes e.name) first others
@@ -133,11 +133,11 @@ unfolding listing_at
 listing_bytes t d {entries} valid is =
     let (names, listed, rest) = both_ok (lists_at t d).answer _ is in
     let (own, looked, last) = both_ok (stat_answer t d) _ rest in
-    let (others, told, whole) = both_ok (all_numbered_at t d names) _ last in
+    let (others, modelled, whole) = both_ok (all_numbered_at t d names) _ last in
     let (held, opened, given) = both_ok (open_answer t d (codes ".") listing_options) _ listed in
     let bytes = subst (All (λ (e : Listed). AreBytes e.0)) (unless_value _ given) (names_bytes t held.node valid) in
     let same : dots own.node ++ others ≡ entries = (cc) in
-    subst HasByteNames same (dots_bytes own.node others (numbered_bytes t d names bytes told))
+    subst HasByteNames same (dots_bytes own.node others (numbered_bytes t d names bytes modelled))
 
 gives_bytes : (t : Tree) (r : Request) (reply : Reply r) → IsValidTree t → reply_of t r ≡ Ok reply → GivesBytes r reply
 gives_bytes t (Path p) reply valid is = path_gives_bytes t p reply valid is
@@ -152,7 +152,7 @@ gives_bytes t r reply valid is = tt
 -- ---- a request
 
 -- what is answered at a place wasn't refused there
-place_free : (t : Tree) (what : EntryOp) (p : Place) {reply : PlaceAnswer what} → answer_in t what p ≡ Ok reply
+place_free : (t : Tree) (what : EntryOp) (p : Place) {reply : EntryAnswer what} → answer_in t what p ≡ Ok reply
     → refusal t (call_at what p) ≡ None
 place_free t CreateDir p is = free _ _ _ is
 place_free t RemoveFile p is = free _ _ _ is
@@ -167,7 +167,7 @@ place_free t ReadLink p is = by (refusal t (call_at ReadLink p)) is
     by (Some code) is = absurd (cc)
 
 -- what is done at a place leads to a valid tree
-place_valid : (t : Tree) (s : ℕ) (text : List ℕ) (what : EntryOp) {reply : PlaceAnswer what} → IsValidTree t
+place_valid : (t : Tree) (s : ℕ) (text : List ℕ) (what : EntryOp) {reply : EntryAnswer what} → IsValidTree t
     → IsUtf8 text → HasUtf8Target what → place_for t s text what >>= answer_in t what ≡ Ok reply
     → IsValidTree (step_in t what (place_for t s text what))
 place_valid t s text what {reply} valid utf8 target answered = by (place_for t s text what) refl answered
@@ -198,7 +198,7 @@ path_valid t (OpenPath s text o follow directory) {reply} valid utf8 answered =
         (free _ _ _ (as_opened directory (answer_at t e) is))
     by (Err code) at is = valid
 path_valid t (LookPath s text follow) valid utf8 answered = valid
-path_valid t (AtPlace s text what) valid texts answered = place_valid t s text what valid texts.0 texts.1 answered
+path_valid t (AtEntry s text what) valid texts answered = place_valid t s text what valid texts.0 texts.1 answered
 path_valid t (TimesPath s text true atime mtime) valid utf8 answered = by (timed t s text)
   where
     by : (m : Result OpenHandle ErrorCode) → IsValidTree (times_through t atime mtime m)
@@ -235,20 +235,20 @@ request_valid t (Grow limit w) {reply = Some grown} valid may is =
 
 -- ---- a turn
 
-row_valid : (s : State) (call : Call) (m : CallResult (Program (Value × Guest))) (p : Value × State) → IsValidState s
-    → IsLocal s.guest call m → row_on s.tree m ≡ Ok p → IsValidState p.1
-row_valid s call (Ok (done q)) p valid near is = record {
+spec_valid : (s : State) (call : Call) (m : CallResult (Program (Value × Guest))) (p : Value × State) → IsValidState s
+    → IsLocal s.guest call m → spec_on s.tree m ≡ Ok p → IsValidState p.1
+spec_valid s call (Ok (done q)) p valid near is = record {
   tree = subst IsValidTree (sym (over_tree (Ok q) is)) valid.tree;
   bytes = subst KeepsBytes (over_guest s.tree (Ok q) is) (near.bytes valid.bytes);
 }
-row_valid s call (Ok (asking r next)) p valid near is =
+spec_valid s call (Ok (asking r next)) p valid near is =
     let did = replied_by s.tree r next is in
     let stepped = request_valid s.tree r valid.tree (near.asked valid.bytes) did.is in
     let read = gives_bytes s.tree r did.reply valid.tree did.is in record {
       tree = subst IsValidTree (sym did.tree) stepped;
       bytes = subst KeepsBytes did.gives (near.bytes valid.bytes did.reply read);
     }
-row_valid s call (Err e) p valid near is = absurd (cc)
+spec_valid s call (Err e) p valid near is = absurd (cc)
 
 -- counts are no bytes
 counts_valid : (s s' : State) (used : QuotaUsed) → s'.guest ≡ with_counts used s.guest → IsValidTree s'.tree
@@ -259,17 +259,17 @@ counts_valid s s' used counts tree bytes =
 -- to whatever state it leads
 pub moved_valid : (s s' : State) (call : FueledCall) → IsValidState s → Moves s s' (turn s call) → IsValidState s'
 moved_valid s s' call valid (inl given) =
-    row_valid s call.call (row s.guest call) _ valid (row_near s.guest call) given.1
+    spec_valid s call.call (call_spec s.guest call) _ valid (spec_near s.guest call) given.1
 moved_valid s s' call valid (inr still) = counts_valid s s' still.used still.guest (elim still.tree [
   | inl same ↦ subst IsValidTree (sym same) valid.tree
   | inr step ↦ subst IsValidTree (sym step.tree)
-      (row_valid s call.call (row s.guest call) step.given valid (row_near s.guest call) step.answers).tree
+      (spec_valid s call.call (call_spec s.guest call) step.given valid (spec_near s.guest call) step.answers).tree
 ]) valid.bytes
 
-pub turn_valid : {rose : Type 0} {w v : World} {g g' : Guest} {call : FueledCall} {r : Result Value P1Error}
-    → Turns rose w v g g' call r → IsValidState (in_world w g) → IsValidState (in_world v g')
+pub turn_valid : {rose : Type 0} {w v : HostModel} {g g' : Guest} {call : FueledCall} {r : Result Value P1Error}
+    → Turns rose w v g g' call r → IsValidState (in_model w g) → IsValidState (in_model v g')
 turn_valid {rose} {w} {v} {g} {g'} {call} {r} takes valid =
-    moved_valid (in_world w g) (in_world v g') call valid (turn_moves rose _ call r takes.turn)
+    moved_valid (in_model w g) (in_model v g') call valid (turn_moves rose _ call r takes.turn)
 
 -- ---- a run
 

@@ -4,7 +4,7 @@ use Rattle.std.specs.Prelude.{◌==◌, not}
 use Rattle.wasi_host.specs.declared.open_handle.OpenHandle.{OpenHandle}
 use Rattle.wasi_p1_types.specs.Front.{ask, charge}
 use Rattle.wasi_p1_types.specs.Guest.{Guest}
-use Rattle.wasi_p1_types.specs.Parts.{room_for}
+use Rattle.wasi_p1_types.specs.SpecParts.{room_for}
 use Rattle.wasi_p1_types.specs.Polling.{some_asked, lists_within, all_waited, earliest, files_named, nodes_read, clocks_at, judged_in, judged_of, waited_by}
 use Rattle.wasi_p1_types.specs.Request.{Sizes}
 use Rattle.wasi_p1_types.specs.CallResult.{Program, done, made_of_reply, give}
@@ -93,7 +93,7 @@ module _ {g : Guest} {subscriptions at count fuel left : ℕ} {judged : Judged} 
     pub answer_front : (length (nodes_read items) == 0) ≡ true
         → (Ok (done (tell_ready at items clocks g [])), left) ≡ poll_oneoff g subscriptions at count fuel
     answer_front none =
-        ap (λ told. (Ok (done (tell_events at clocks g told)), left)) (sym (events_by held clocks.monotonic items []))
+        ap (λ modelled. (Ok (done (tell_events at clocks g modelled)), left)) (sym (events_by held clocks.monotonic items []))
         ∙ ap (λ ns. look_and_tell g at (map (waited_by held) items) clocks ns left) (sym (none_read held items none))
         ∙ ready_front (map (waited_by held) items) ready waited
 

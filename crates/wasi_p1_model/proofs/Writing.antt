@@ -15,14 +15,14 @@ use Rattle.wasi_p1_model.specs.Putting.{put_answer, put_end, put_in, put_request
 use Rattle.wasi_p1_types.specs.Quotas.{allowance, growth_to}
 use Rattle.wasi_p1_types.specs.Request.{Reply, Direct, Behind, size_at}
 use Rattle.wasi_p1_types.specs.CallResult.{CallResult, done, give}
-use Rattle.wasi_p1_types.specs.Parts.{Sink, output, into, sink_in, range, may_write, held_by, at_position, with_file}
+use Rattle.wasi_p1_types.specs.SpecParts.{WriteTarget, output, into, write_target_in, range, may_write, held_by, at_position, with_file}
 use Rattle.wasi_p1_types.specs.Front.{ask, charged_buffer}
 use Rattle.wasi_p1_model.specs.Calls.{fd_write, write_to}
 use Rattle.wasi_p1_types.specs.Spending.{growing}
 use Rattle.wasi_p1_model.specs.Writing.{WritesWhole, with_grown, written_to}
 use Rattle.wasi_p1_types.specs.declared.guest_env.Output.{Output}
 use Rattle.wasi_host.proofs.Agreeing.{unless_value}
-use Rattle.wasi_p1_model.proofs.Alike.{row_on}
+use Rattle.wasi_p1_model.proofs.Alike.{spec_on}
 use Rattle.wasi_p1_model.proofs.Appending.{behind_reply}
 use Rattle.wasi_p1_model.proofs.Bytes.{range_is}
 use Rattle.wasi_p1_model.proofs.Moving.{gave_buffer, gave}
@@ -30,7 +30,7 @@ use Rattle.wasi_p1_model.proofs.Spending.{answer_is, gave_growing, grew_to}
 
 -- a row's answer is the answer and the state after it
 pub state_is : {t : Tree} {x y : Value} {g : Guest} {s' : State}
-    → row_on t (Ok (done (y, g))) ≡ Ok (x, s') → (x ≡ y) × (s' ≡ record { tree = t; guest = g })
+    → spec_on t (Ok (done (y, g))) ≡ Ok (x, s') → (x ≡ y) × (s' ≡ record { tree = t; guest = g })
 state_is {t} {x} {y} {g} {s'} is =
     let same : ◌≡◌ {A = Value × State} (y, record { tree = t; guest = g }) (x, s') = (cc) in
     (ap (λ (p : Value × State). p.0) (sym same), ap (λ (p : Value × State). p.1) (sym same))
@@ -41,11 +41,11 @@ unfolding metadata_of
 told_size t n = refl
 
 pub writes_whole : (s s' : State) (fuel fd iovs n : ℕ) (x : Value)
-    → row_on s.tree (fd_write s.guest fd iovs n fuel).0 ≡ Ok (x, s') → WritesWhole s s' fd iovs n x
+    → spec_on s.tree (fd_write s.guest fd iovs n fuel).0 ≡ Ok (x, s') → WritesWhole s s' fd iovs n x
 unfolding fd_write
 writes_whole s s' fuel fd iovs n x is =
     let (buffer, left, found, one) = gave_buffer s.tree s.guest.memory iovs n _ fuel is in
-    let (sink, named, two) = gave s.tree (sink_in (slice_get s.guest.slots fd)) _ left one in
+    let (sink, named, two) = gave s.tree (write_target_in (slice_get s.guest.slots fd)) _ left one in
     let (piece, inside, three) = gave s.tree (range s.guest.memory buffer.buf buffer.buf_len) _ left two in
     let part = range_is s.guest.memory buffer.buf buffer.buf_len inside in
     let put = puts buffer left piece part.long sink three in record {
@@ -57,8 +57,8 @@ writes_whole s s' fuel fd iovs n x is =
       after = put.1 ∙ ap (λ l. written_to s fd l sink) part.bytes_are;
     }
   where
-    puts : (buffer : Iovec) (left : ℕ) (piece : List ℕ) → length piece ≡ buffer.buf_len → (sink : Sink)
-        → row_on s.tree (write_to s.guest fd sink piece left).0 ≡ Ok (x, s')
+    puts : (buffer : Iovec) (left : ℕ) (piece : List ℕ) → length piece ≡ buffer.buf_len → (sink : WriteTarget)
+        → spec_on s.tree (write_to s.guest fd sink piece left).0 ≡ Ok (x, s')
         → (x ≡ Number buffer.buf_len) × (s' ≡ written_to s fd piece sink)
     puts buffer left piece long (output o) is =
         let (answered, after) = state_is is in (answered ∙ ap (λ k. Number k) long, after)
@@ -86,7 +86,7 @@ writes_whole s s' fuel fd iovs n x is =
         next b reply = give (put_answer s.guest fd f (put_in b (held_by f) f.position piece reply))
 
         by : (b : Bool) → f.modes.append ≡ b
-            → row_on s.tree (growing (allowance s.guest.holdings f.open_mode) (ask (put_request b (held_by f) f.position piece) (next b)) left).0 ≡ Ok (x, s')
+            → spec_on s.tree (growing (allowance s.guest.holdings f.open_mode) (ask (put_request b (held_by f) f.position piece) (next b)) left).0 ≡ Ok (x, s')
             → (x ≡ Number buffer.buf_len) × (s' ≡ written_to s fd piece (into f))
         by true at is =
             let grew = gave_growing s.tree (allowance s.guest.holdings f.open_mode) (Behind (held_by f) piece) (next true) left is in
@@ -109,7 +109,7 @@ writes_whole s s' fuel fd iovs n x is =
 
 -- and what is written to an output is put so
 pub output_whole : (s : State) (fuel fd iovs n : ℕ) {left : ℕ} {buffer : Iovec} {o : Output} {piece : List ℕ}
-    → (Ok buffer, left) ≡ charged_buffer s.guest.memory iovs n fuel → Ok (output o) ≡ sink_in (slice_get s.guest.slots fd)
+    → (Ok buffer, left) ≡ charged_buffer s.guest.memory iovs n fuel → Ok (output o) ≡ write_target_in (slice_get s.guest.slots fd)
     → Ok piece ≡ range s.guest.memory buffer.buf buffer.buf_len
     → WritesWhole s (written_to s fd piece (output o)) fd iovs n (Number (length piece))
 unfolding fd_write

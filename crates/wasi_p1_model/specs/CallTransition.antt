@@ -3,7 +3,7 @@ use Rattle.std.specs.Prelude.{ℕ, ◌≡◌, ◌≤◌, ◌⊎◌, Bool, true, 
 use Rattle.wasi_host.specs.Agree.{Touches}
 use Rattle.wasi_fs.specs.declared.perms.FsPerms.{FsPerms}
 use Rattle.wasi_fs.specs.declared.perms.FsPerms.TheVariants.{ReadOnly}
-use Rattle.wasi_host.specs.HostLaws.{World, Handles, Rose, FaultCount}
+use Rattle.wasi_host.specs.HostLaws.{HostModel, Handles, Rose, FaultCount}
 use Rattle.wasi_host.specs.declared.lookup.Lookup.{Lookup}
 use Rattle.wasi_p1_types.specs.Slots.{View}
 use Rattle.wasi_p1_model.specs.Owners.{handles, unowned, CallTraced, SlotsOfCall}
@@ -12,7 +12,7 @@ use Rattle.wasi_p1_types.specs.Guest.{Guest, State, perms_in, guest_of, guest_by
 use Rattle.wasi_p1_model.specs.Locality.{TouchesOnlyNear}
 use Rattle.wasi_p1_types.specs.CallResult.{CallResult, Program, done, asking}
 use Rattle.wasi_p1_types.specs.Front.{FueledCall, with_fuel}
-use Rattle.wasi_p1_model.specs.Calls.{row, turn, fuel_left, descriptors_named, may_run_out_of_memory}
+use Rattle.wasi_p1_model.specs.Calls.{call_spec, turn, fuel_left, descriptors_named, may_run_out_of_memory}
 use Rattle.wasi_p1_types.specs.Spending.{makes, spent}
 use Rattle.wasi_p1_types.specs.GuestEnvModel.{GuestEnvModel}
 use Rattle.wasi_p1_model.specs.Transition.{IsTransition, ReachesHost, come_to_by, roots_of, used_by}
@@ -42,24 +42,24 @@ LooksByNames true old new = Unit {0}
 LooksByNames false old new = new ≡ old
 
 -- a world and a guest, as a state
-abbrev pub in_world : World → Guest → State
-in_world w g = record { tree = w.tree; guest = g }
+abbrev pub in_model : HostModel → Guest → State
+in_model w g = record { tree = w.tree; guest = g }
 
 -- The answer and the state are those of the call's row. The call touches no node but those reached from where its
 -- request starts, and those made; where it is answered, it touches each at which a path of it ended, and each that stands
 -- under a handle by which its row asks the host
-pub record Turns (rose : Type 0) (w v : World) (g g' : Guest) (call : FueledCall)
+pub record Turns (rose : Type 0) (w v : HostModel) (g g' : Guest) (call : FueledCall)
     (result : Result Value P1Error) : Type 0 where
-  pub turn : IsTransition rose (ReachesHost (in_world w g) call) (used_by (in_world w g) call) (in_world w g) (in_world v g')
-      result (turn (in_world w g) call)
-  pub touched : Touches w.tree v.tree (roots_of (in_world w g) call)
-      (if is_ok result then come_to_by (in_world w g) call else []) w.touched v.touched
+  pub turn : IsTransition rose (ReachesHost (in_model w g) call) (used_by (in_model w g) call) (in_model w g) (in_model v g')
+      result (turn (in_model w g) call)
+  pub touched : Touches w.tree v.tree (roots_of (in_model w g) call)
+      (if is_ok result then come_to_by (in_model w g) call else []) w.touched v.touched
 
 -- from a context and a memory to those after it
-abbrev pub Transitions : {H : Type 0} → (H → World) → Type 0 → View H → View H → List ℕ → List ℕ → FueledCall
+abbrev pub Transitions : {H : Type 0} → (H → HostModel) → Type 0 → View H → View H → List ℕ → List ℕ → FueledCall
     → Result Value P1Error → Type 0
-Transitions world rose old new before after call result =
-    Turns rose (world old.host) (world new.host) (guest_of world old before) (guest_of world new after) call result
+Transitions model rose old new before after call result =
+    Turns rose (model old.host) (model new.host) (guest_of model old before) (guest_of model new after) call result
 
 -- nothing changed but the fuel, and the host wasn't asked
 abbrev pub Same : {H : Type 0} → View H → View H → List ℕ → List ℕ → Type 0
@@ -112,20 +112,20 @@ pub record NamesUnder (perms : FsPerms) (g : Guest) (call : Call) : Type 0 where
 -- under their numbers with their handles, but for those that the call names or closes; and the fuel is what the row
 -- leaves. Over a host that tells its world: the turn, which leaves the tree, whatever it answers, where a descriptor
 -- that the call names is under read-only permissions, and which touches nothing but what is near the call
-pub record FollowsRow {H : Type 0} (told : Bool) (world : H → World) (faults : H → FaultCount) (lookups : H → List Lookup)
+pub record FollowsSpec {H : Type 0} (modelled : Bool) (model : H → HostModel) (faults : H → FaultCount) (lookups : H → List Lookup)
     (old new : View H) (before after : List ℕ) (call : Call) (result : Result Value P1Error) : Type 0 where
   pub size : length after ≡ length before
   pub kept : IfErr result (λ e. KeptBut call e old new before after)
   pub wants : result ≡ Err Memory → IsTrue (may_run_out_of_memory call)
   pub slots : SlotsOfCall old.slots new.slots before call
-  pub fuel : new.fuel ≡ fuel_left (guest_of world old before) (with_fuel old.fuel call)
+  pub fuel : new.fuel ≡ fuel_left (guest_of model old before) (with_fuel old.fuel call)
   pub front : AtFront (Same old new before after) (Quiet faults lookups old new)
-      (guest_by (world old.host).held new after) result (row (guest_of world old before) (with_fuel old.fuel call))
-  pub turn : IsTrue told → Transitions world (Rose (faults old.host) (faults new.host)) old new before after
+      (guest_by (model old.host).held new after) result (call_spec (guest_of model old before) (with_fuel old.fuel call))
+  pub turn : IsTrue modelled → Transitions model (Rose (faults old.host) (faults new.host)) old new before after
       (with_fuel old.fuel call) result
-  pub permits : IsTrue told → NamesUnder ReadOnly (guest_of world old before) call
-      → (world new.host).tree ≡ (world old.host).tree
-  pub near : IsTrue told → TouchesOnlyNear (world old.host) (world new.host) (guest_of world old before) call
+  pub permits : IsTrue modelled → NamesUnder ReadOnly (guest_of model old before) call
+      → (model new.host).tree ≡ (model old.host).tree
+  pub near : IsTrue modelled → TouchesOnlyNear (model old.host) (model new.host) (guest_of model old before) call
 
 -- a call is valid where its row answers it: no refusal holds
 abbrev pub IsValidCall : State → FueledCall → Type 0

@@ -5,14 +5,14 @@ use Rattle.wasi_guest.specs.declared.call.Call.{Call}
 use Rattle.wasi_guest.specs.declared.call.Call.TheVariants as calls
 use Rattle.wasi_p1_types.specs.Front.{CallFront, FueledCall}
 use Rattle.wasi_p1_types.specs.Guest.{Guest, State}
-use Rattle.wasi_p1_types.specs.CallResult.{CallResult, Program, row_on}
+use Rattle.wasi_p1_types.specs.CallResult.{CallResult, Program, spec_on}
 use Rattle.wasi_p1_model.specs.Subscriptions.{waited_for}
 pub mod Opening
 pub mod ReadingAndWriting
 pub mod PositionsAndSizes
 pub mod Descriptors
-pub mod Places
-pub mod TwoPlaces
+pub mod PathOps
+pub mod TwoPaths
 pub mod Times
 pub mod Services
 pub mod Listing
@@ -21,8 +21,8 @@ unfoldable pub use Opening.*
 unfoldable pub use ReadingAndWriting.*
 unfoldable pub use PositionsAndSizes.*
 unfoldable pub use Descriptors.*
-unfoldable pub use Places.*
-unfoldable pub use TwoPlaces.*
+unfoldable pub use PathOps.*
+unfoldable pub use TwoPaths.*
 unfoldable pub use Times.*
 unfoldable pub use Services.*
 unfoldable pub use Listing.*
@@ -83,15 +83,15 @@ front g (calls.SockSend fd iovs iovs_len si_flags) = sock_send g fd iovs iovs_le
 front g (calls.SockShutdown fd how) = sock_shutdown g fd how
 
 -- the row of a call, and the fuel that is left at its end
-abbrev pub row : Guest → FueledCall → CallResult (Program (Value × Guest))
-row g call = (front g call.call call.fuel).0
+abbrev pub call_spec : Guest → FueledCall → CallResult (Program (Value × Guest))
+call_spec g call = (front g call.call call.fuel).0
 
 abbrev pub fuel_left : Guest → FueledCall → ℕ
 fuel_left g call = (front g call.call call.fuel).1
 
 -- the answer of a call, and the state after it
 abbrev pub turn : State → FueledCall → CallResult (Value × State)
-turn s call = row_on s.tree (row s.guest call)
+turn s call = spec_on s.tree (call_spec s.guest call)
 
 -- ---- what a call says by its arguments
 

@@ -17,7 +17,7 @@ use Rattle.wasi_p1_types.specs.declared.error.P1Error.TheVariants.{Memory}
 -- one call with this fuel, from a context and a memory to those after it: it does its row, and stays in its bounds
 pub record DoesCall {H : Type 0} (host : Ghosts H) (fuel : ℕ) (old new : View H) (before after : List ℕ) (call : Call)
     (result : Result Value P1Error) : Type 0 where
-  pub row : MeetsSpec host (record old { fuel = fuel }) new before after call result
+  pub call_spec : MeetsSpec host (record old { fuel = fuel }) new before after call result
   pub bounds : KeepsHostLaws host (record old { fuel = fuel }) new before call result
 
 -- it is answered so, and leaves a context and a memory
@@ -58,7 +58,7 @@ pub record DoCallsUntil {H : Type 0} (host : Ghosts H) (fuel : ℕ) (old : View 
   pub memory : List ℕ
   pub did : DoCalls host fuel old before (take n calls) answers mid memory
   pub wanted : WantsFrom host fuel mid memory calls n new after
-  pub stands : AsBefore host.told host.world mid new memory after
+  pub stands : AsBefore host.modelled host.model mid new memory after
 
 -- a call of a list meets this memory: those before it, made from the start, leave it
 pub record Meets {H : Type 0} (host : Ghosts H) (fuel : ℕ) (old : View H) (before : List ℕ) (calls : List Call)

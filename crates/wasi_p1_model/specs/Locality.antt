@@ -3,7 +3,7 @@ use Rattle.std.specs.Prelude.{◌≡◌, ◌⊎◌, ℕ, true, List, slice_get}
 use Rattle.std.specs.FinSet.{contains}
 use Rattle.std.specs.List.{flat_map}
 use Rattle.wasi_host.specs.Agree.{OrMade}
-use Rattle.wasi_host.specs.HostLaws.{World}
+use Rattle.wasi_host.specs.HostLaws.{HostModel}
 use Rattle.wasi_host.specs.Tree.{Tree}
 use Rattle.wasi_host.specs.ValidTree.{Reached}
 use Rattle.wasi_guest.specs.declared.call.Call.{Call}
@@ -20,6 +20,6 @@ abbrev pub IsLocalCall : Tree → Tree → Guest → Call → ℕ → Type 0
 IsLocalCall before after g call n = OrMade (Reached before (nodes_named g call)) before after n
 
 -- the nodes touched after a call are those touched before, and nodes near it
-pub record TouchesOnlyNear (w v : World) (g : Guest) (call : Call) : Type 0 where
+pub record TouchesOnlyNear (w v : HostModel) (g : Guest) (call : Call) : Type 0 where
   pub stays : (n : ℕ) → contains w.touched n ≡ true → contains v.touched n ≡ true
   pub near : (n : ℕ) → contains v.touched n ≡ true → (contains w.touched n ≡ true) ⊎ IsLocalCall w.tree v.tree g call n

@@ -3,7 +3,7 @@ use Rattle.std.specs.Prelude.{ℕ, List, Result}
 use Rattle.wasi_host.specs.declared.host.Host.{Ghosts}
 use Rattle.wasi_guest.specs.declared.answer.Value.{Value}
 use Rattle.wasi_guest.specs.declared.call.Call.{Call}
-use Rattle.wasi_p1_model.specs.CallTransition.{Causes, OthersStay, Looks, LooksByNames, FollowsRow}
+use Rattle.wasi_p1_model.specs.CallTransition.{Causes, OthersStay, Looks, LooksByNames, FollowsSpec}
 use Rattle.wasi_p1_model.specs.Calls.{looks_up}
 use Rattle.wasi_p1_types.specs.Slots.{View}
 use Rattle.wasi_p1_types.specs.declared.error.P1Error.{P1Error}
@@ -15,11 +15,11 @@ pub record KeepsHostLaws {H : Type 0} (host : Ghosts H) (old new : View H) (memo
     (result : Result Value P1Error) : Type 0 where
   pub cause : Causes (host.faults old.host) (host.faults new.host) result
   pub handles : OthersStay host.live old new
-  pub lineage : Looks host.lookups old new memory call
+  pub provenance : Looks host.lookups old new memory call
   pub logged : LooksByNames (looks_up call) (host.lookups old.host) (host.lookups new.host)
 
 -- from a context and a memory to those after it, by its row
 abbrev pub MeetsSpec : {H : Type 0} → Ghosts H → View H → View H → List ℕ → List ℕ → Call → Result Value P1Error
     → Type 0
 MeetsSpec host old new before after call result =
-    FollowsRow host.told host.world host.faults host.lookups old new before after call result
+    FollowsSpec host.modelled host.model host.faults host.lookups old new before after call result

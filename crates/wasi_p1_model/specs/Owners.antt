@@ -3,7 +3,7 @@ use Rattle.std.specs.Prelude.{ℕ, ◌≤◌, ◌==◌, ◌≡◌, Bool, true, f
 use Rattle.std.specs.List.{flat_map}
 use Rattle.std.specs.FinSet.{contains, insert, remove, retain}
 use Rattle.wasi_host.specs.HostLaws.{Handles}
-use Rattle.wasi_host.specs.Lineage.{HasProvenance}
+use Rattle.wasi_host.specs.Provenance.{HasProvenance}
 use Rattle.wasi_host.specs.declared.lookup.Lookup.{Lookup}
 use Rattle.wasi_p1_types.specs.Slots.{is_closed_slot}
 use Rattle.wasi_p1_types.specs.declared.slots.Slot.{Slot}

@@ -1,6 +1,6 @@
 -- A byte that is written at an offset of a file is the one that is read there.
 use Rattle.std.specs.Prelude.{ℕ, ◌+◌, ◌<◌, ◌≡◌, true, false, min, List, length, take, drop, slice_get, Some, Ok}
-use Rattle.wasi_host.specs.HostLaws.{AllHeld, Handles, IsHeld, World}
+use Rattle.wasi_host.specs.HostLaws.{AllHeld, Handles, IsHeld, HostModel}
 use Rattle.wasi_host.specs.Refusal.{can_write}
 use Rattle.wasi_host.specs.Step.{write_step}
 use Rattle.wasi_host.specs.Tree.{Tree, bytes_of, node_at}
@@ -13,7 +13,7 @@ use Rattle.wasi_guest.specs.Range.{IsInMemory, with_bytes}
 use Rattle.wasi_p1_types.specs.Guest.{OpenFile, State, file, guest_slots}
 use Rattle.wasi_p1_types.specs.Front.{with_fuel}
 use Rattle.wasi_p1_model.specs.Owners.{Owned, handles}
-use Rattle.wasi_p1_types.specs.Parts.{held_by}
+use Rattle.wasi_p1_types.specs.SpecParts.{held_by}
 use Rattle.wasi_p1_model.specs.Calls.{turn}
 use Rattle.wasi_p1_model.specs.Writing.{buffer_bytes, put_growth, with_grown}
 use Rattle.wasi_p1_types.specs.declared.slots.Slot.{Slot}
@@ -49,7 +49,7 @@ BytesArePut =
 -- the file of each descriptor of a context is held, where its host tells
 abbrev pub FilesAreHeld : Type 0
 FilesAreHeld =
-    (w : World) (live : Handles) (table : List Slot) (fd : ℕ) (f : OpenFile) → AllHeld live w
+    (w : HostModel) (live : Handles) (table : List Slot) (fd : ℕ) (f : OpenFile) → AllHeld live w
     → Owned live (handles table) → slice_get (guest_slots w.held table) fd ≡ Some (file f) → IsHeld w.tree (held_by f)
 
 -- where the file is held, each byte of the buffer stands in it then

@@ -7,7 +7,7 @@ use Rattle.wasi_host.specs.declared.metadata.Metadata.{Metadata}
 use Rattle.wasi_guest.specs.declared.answer.Value.{Value}
 use Rattle.wasi_guest.specs.declared.answer.Value.TheVariants.{Number}
 use Rattle.wasi_p1_types.specs.Guest.{Guest, OpenFile}
-use Rattle.wasi_p1_types.specs.Parts.{at_position, with_file}
+use Rattle.wasi_p1_types.specs.SpecParts.{at_position, with_file}
 use Rattle.wasi_p1_types.specs.Request.{Request, Reply, Direct, Behind}
 use Rattle.wasi_p1_types.specs.Quotas.{end_of_piece}
 use Rattle.wasi_p1_types.specs.declared.quotas.FileEnd.{FileEnd}

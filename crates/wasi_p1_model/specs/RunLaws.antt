@@ -1,6 +1,6 @@
 -- Laws of turns and runs.
 use Rattle.std.specs.Prelude.{◌≡◌, ℕ, List, All, IsTrue, Result}
-use Rattle.wasi_host.specs.HostLaws.{World, Rose, FaultCount}
+use Rattle.wasi_host.specs.HostLaws.{HostModel, Rose, FaultCount}
 use Rattle.wasi_guest.specs.declared.call.Call.{Call}
 use Rattle.wasi_host.specs.declared.host.Host.{Ghosts}
 use Rattle.wasi_p1_model.specs.CallTransition.{IsAnswered, IsValidCall, Transitions}
@@ -22,12 +22,12 @@ RunsAreFunctions =
     → (turns ≡ turns') × (new ≡ new')
 
 -- a call that does its row, as each method does, is answered where it is valid, unless the host's count rose in it
-abbrev pub RowsAreComplete : {H : Type 0} → Ghosts H → Type 0
-RowsAreComplete {H} host =
+abbrev pub SpecsAreComplete : {H : Type 0} → Ghosts H → Type 0
+SpecsAreComplete {H} host =
     (old new : View H) (before after : List ℕ) (call : Call) (result : Result Value P1Error)
-    → MeetsSpec host old new before after call result → IsTrue host.told
+    → MeetsSpec host old new before after call result → IsTrue host.modelled
     → (Rose (host.faults old.host) (host.faults new.host) → ⊥)
-    → IsValidCall (state_of host.world old before) (with_fuel old.fuel call) → IsAnswered call result
+    → IsValidCall (state_of host.model old before) (with_fuel old.fuel call) → IsAnswered call result
 
 -- each call of a run that is valid in the state before it is answered Ok, unless the host failed in it
 abbrev pub RunsAreComplete : Type 0
@@ -42,10 +42,10 @@ OtherErrorsNeverCome =
     → All MayCome (answers_of turns)
 
 -- each turn over a told host keeps what was come to in reach of the start
-abbrev pub TurnsAreConfined : {H : Type 0} → (H → World) → Type 0
-TurnsAreConfined {H} world =
+abbrev pub TurnsAreConfined : {H : Type 0} → (H → HostModel) → Type 0
+TurnsAreConfined {H} model =
     (start : State) (old new : View H) (before after : List ℕ) (call : FueledCall) (result : Result Value P1Error)
     (faults faults' : FaultCount)
-    → Transitions world (Rose faults faults') old new before after call result
-    → Confined start (state_of world old before) (world old.host).touched
-    → Confined start (state_of world new after) (world new.host).touched
+    → Transitions model (Rose faults faults') old new before after call result
+    → Confined start (state_of model old before) (model old.host).touched
+    → Confined start (state_of model new after) (model new.host).touched

@@ -12,7 +12,7 @@ use Rattle.wasi_guest.specs.declared.iovec.Iovec.{Iovec}
 use Rattle.wasi_guest.specs.Iovec.{first_buffer}
 use Rattle.wasi_p1_types.specs.Guest.{Guest, OpenFile, State}
 use Rattle.wasi_p1_types.specs.Front.{with_fuel}
-use Rattle.wasi_p1_types.specs.Parts.{Sink, output, into, sink_in, at_position, with_file}
+use Rattle.wasi_p1_types.specs.SpecParts.{WriteTarget, output, into, write_target_in, at_position, with_file}
 use Rattle.wasi_p1_model.specs.Putting.{put_end}
 use Rattle.wasi_p1_types.specs.Quotas.{counted_growth, growth_to}
 use Rattle.wasi_p1_types.specs.Request.{size_at}
@@ -42,7 +42,7 @@ file_after g fd f piece growth t =
 
 -- A piece is put whole behind what was written to an output, or into a file, whose growth is counted where a bound is
 -- set; and nothing else changes
-abbrev pub written_to : State → ℕ → List ℕ → Sink → State
+abbrev pub written_to : State → ℕ → List ℕ → WriteTarget → State
 written_to s fd piece (output o) =
     record { tree = s.tree; guest = record s.guest { holdings = written s.guest.holdings o piece } }
 written_to s fd piece (into f) =
@@ -57,8 +57,8 @@ buffer_bytes memory buffer = slice_range memory buffer.buf (buffer.buf + buffer.
 pub record WritesWhole (s s' : State) (fd iovs n : ℕ) (x : Value) : Type 0 where
   pub buffer : Iovec
   pub first : first_buffer s.guest.memory iovs n ≡ Ok buffer
-  pub sink : Sink
-  pub named : sink_in (slice_get s.guest.slots fd) ≡ Ok sink
+  pub sink : WriteTarget
+  pub named : write_target_in (slice_get s.guest.slots fd) ≡ Ok sink
   pub answer : x ≡ Number buffer.buf_len
   pub after : s' ≡ written_to s fd (buffer_bytes s.guest.memory buffer) sink
 

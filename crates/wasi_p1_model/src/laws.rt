@@ -3,7 +3,7 @@ ghost use Rattle.wasi_p1_model.specs.PageLaws.{RecordLength, PageLength, PastThe
 ghost use Rattle.wasi_p1_model.specs.PageLaws.{ListingsFit, WholeOfPage, LargePagesHold, PagesInOrder, PagesHaveAll, EmptyPageEnds};
 ghost use Rattle.wasi_p1_model.specs.Owners.{LiveStays};
 ghost use Rattle.wasi_p1_model.specs.StatesAgree.{ReachIsOne, TurnsAgree, RunsAgree};
-ghost use Rattle.wasi_p1_model.specs.RunLaws.{OtherErrorsNeverCome, RowsAreComplete, RunsAreComplete, RunsAreFunctions, TurnsAreConfined};
+ghost use Rattle.wasi_p1_model.specs.RunLaws.{OtherErrorsNeverCome, SpecsAreComplete, RunsAreComplete, RunsAreFunctions, TurnsAreConfined};
 ghost use Rattle.wasi_p1_model.specs.Stems.{PermissionsStem};
 ghost use Rattle.wasi_p1_model.specs.ReadOnly.{ReadOnlyTurnsLeaveTheTree, ReadOnlyRunsLeaveTheTree};
 ghost use Rattle.wasi_p1_model.specs.AppendOnly.{AppendOnlyTurnsAdd, AppendingStays, RunsOnlyGrow, RunsKeepWhatIsApart};
@@ -28,7 +28,7 @@ pub fn runs_are_functions()
 /// What a method's clause `spec` says makes it complete: a call that is valid in the state before it, where its row
 /// answers it, is answered, unless the host's count of faults rose in it, or memory was wanted by a call that takes some.
 pub fn methods_are_complete<H: Host>()
-    ensures complete { RowsAreComplete H.Host }
+    ensures complete { SpecsAreComplete H.Host }
 {}
 
 /// A call of a run that is valid in the state before it, where its row answers it, is answered Ok, unless the host failed
@@ -47,7 +47,7 @@ pub fn other_errors_never_come()
 /// A turn keeps what was come to in reach of the start: a node of a descriptor or under a name in reach, and each node
 /// that was touched, is reached from a descriptor at the start or was made since.
 pub fn turns_are_confined<H: Host>()
-    ensures confined { TurnsAreConfined H.world }
+    ensures confined { TurnsAreConfined H.model }
 {}
 
 /// Calls answer the same, and do the same to what is in reach, from two states that differ only where the guest can't come

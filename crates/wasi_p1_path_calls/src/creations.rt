@@ -3,7 +3,7 @@ ghost use Rattle.std.specs.Prelude.{◌≡◌, false, true, slice_get, IfErr, On
 ghost use Rattle.wasi_fs.specs.Calls.{may_do, may_link};
 ghost use Rattle.wasi_fs.specs.OpenHow.{may_open};
 ghost use Rattle.wasi_fs.specs.declared.perms.Act.TheVariants.{Make};
-ghost use Rattle.wasi_host.specs.Lineage.{HasProvenance, Only, Nothing};
+ghost use Rattle.wasi_host.specs.Provenance.{HasProvenance, Only, Nothing};
 ghost use Rattle.wasi_p1_state.specs.Held.{HoldsHandles};
 ghost use Rattle.wasi_p1_state.specs.Viewed.{descriptor_under, LoweredTo};
 ghost use Rattle.wasi_p2_types.specs.FlagNames.{how_named};
@@ -26,7 +26,7 @@ use wasi_paths::has_root;
 /// Whether a directory may be made: Perm where making isn't permitted, and then Dquot where no making is left.
 #[tactic(auto, unfolding(wasi_fs::specs::Calls::may_do))]
 pub fn check_make(holdings: &GuestEnv, perms: FsPerms) -> Result<(), P1Error>
-    ensures row { result ≡ check_to_make true (may_do perms Make) holdings.now }
+    ensures specified { result ≡ check_to_make true (may_do perms Make) holdings.now }
     ensures left { OnOk result (may_make holdings.now ≡ Ok tt) }
     ensures refusal { IfErr result (λ e. is_failure e ≡ false) }
 {
@@ -40,7 +40,7 @@ pub fn check_make(holdings: &GuestEnv, perms: FsPerms) -> Result<(), P1Error>
 /// where no making is left.
 #[tactic(auto, unfolding(wasi_fs::specs::Calls::may_link))]
 pub fn check_link(holdings: &GuestEnv, perms: FsPerms, target: &str) -> Result<(), P1Error>
-    ensures row { result ≡ check_to_make true (may_link perms target.now) holdings.now }
+    ensures specified { result ≡ check_to_make true (may_link perms target.now) holdings.now }
     ensures left { OnOk result (may_make holdings.now ≡ Ok tt) }
     ensures refusal { IfErr result (λ e. is_failure e ≡ false) }
 {
@@ -53,7 +53,7 @@ pub fn check_link(holdings: &GuestEnv, perms: FsPerms, target: &str) -> Result<(
 /// Whether this may be opened below a directory of these permissions: as `OpenWith::check` refuses, and then Dquot where
 /// a missing file is made and no making is left.
 pub fn check_open(holdings: &GuestEnv, perms: FsPerms, with: OpenWith) -> Result<(), P1Error>
-    ensures row { result ≡ check_to_make (how_named with.path_flags with.open_flags with.flags).create
+    ensures specified { result ≡ check_to_make (how_named with.path_flags with.open_flags with.flags).create
         (may_open (how_named with.path_flags with.open_flags with.flags) perms) holdings.now }
     ensures refusal { IfErr result (λ e. is_failure e ≡ false) }
 {
@@ -84,7 +84,7 @@ pub fn make_below<H: Host, C: EntryOp<H>>(
     ensures counted { holdings.new ≡ on_outcome result (counted_making holdings.old) holdings.old }
     ensures cause { Causes (H.faults fs.old.host) (H.faults fs.new.host) result }
     ensures live { H.live fs.new.host ≡ H.live fs.old.host }
-    ensures lineage { HasProvenance (Only dir.now.dir) Nothing Nothing (H.lookups fs.old.host) (H.lookups fs.new.host) }
+    ensures provenance { HasProvenance (Only dir.now.dir) Nothing Nothing (H.lookups fs.old.host) (H.lookups fs.new.host) }
     ensures did { LoweredTo C.shown (C.Did call fs.old.host fs.new.host dir.now) result }
 {
     let made = raised(below(fs, descriptors, fd, dir, call));

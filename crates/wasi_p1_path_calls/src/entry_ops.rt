@@ -7,11 +7,11 @@ ghost use Rattle.wasi_fs.specs.MetadataHash.{metadata_hash, IsHash};
 ghost use Rattle.wasi_fs.specs.declared.perms.Act.TheVariants.{Make, Alter};
 ghost use Rattle.wasi_p1_types.specs.SinceEpoch.{AreSinceEpoch};
 ghost use Rattle.wasi_p2_types.specs.FlagNames.{path_flags_named};
-ghost use Rattle.wasi_p2_calls.specs.Places.{IsReadText};
+ghost use Rattle.wasi_p2_calls.specs.PathOps.{IsReadText};
 ghost use Rattle.wasi_p2_types.specs.Stats.{hash_named, stat_named};
 ghost use Rattle.wasi_p2_calls.specs.Views.{Performs};
 ghost use Rattle.wasi_resolve.specs.EntryOps.{CreateDir, ReadLink, RemoveDir, RemoveFile, Symlink};
-ghost use Rattle.wasi_resolve.specs.PathRequest.{AtPlace, meant_by};
+ghost use Rattle.wasi_resolve.specs.PathRequest.{AtEntry, meant_by};
 
 use wasi_host::Host;
 use wasi_p1_state::views::EntryOp;
@@ -35,7 +35,7 @@ impl<'p, H: Host> EntryOp<H> for CreateDirectoryAt<'p> {
     ghost shown = { λ unit. unit };
 
     ghost Did = { λ call old new dir. Performs H.Host old new (may_do dir.perms Make)
-        (meant_by (H.world old).tree (AtPlace ((H.world old).held dir.dir).node call.path.now CreateDir))
+        (meant_by (H.model old).tree (AtEntry ((H.model old).held dir.dir).node call.path.now CreateDir))
         (λ unit. unit) };
 
     fn made(self, view: &mut WasiFilesystemCtxView<'_, H>, fd: Resource) -> FsResult<()> {
@@ -57,7 +57,7 @@ impl<'p, H: Host> EntryOp<H> for RemoveDirectoryAt<'p> {
     ghost shown = { λ unit. unit };
 
     ghost Did = { λ call old new dir. Performs H.Host old new (may_do dir.perms Alter)
-        (meant_by (H.world old).tree (AtPlace ((H.world old).held dir.dir).node call.path.now RemoveDir))
+        (meant_by (H.model old).tree (AtEntry ((H.model old).held dir.dir).node call.path.now RemoveDir))
         (λ unit. unit) };
 
     fn made(self, view: &mut WasiFilesystemCtxView<'_, H>, fd: Resource) -> FsResult<()> {
@@ -79,7 +79,7 @@ impl<'p, H: Host> EntryOp<H> for UnlinkFileAt<'p> {
     ghost shown = { λ unit. unit };
 
     ghost Did = { λ call old new dir. Performs H.Host old new (may_do dir.perms Alter)
-        (meant_by (H.world old).tree (AtPlace ((H.world old).held dir.dir).node call.path.now RemoveFile))
+        (meant_by (H.model old).tree (AtEntry ((H.model old).held dir.dir).node call.path.now RemoveFile))
         (λ unit. unit) };
 
     fn made(self, view: &mut WasiFilesystemCtxView<'_, H>, fd: Resource) -> FsResult<()> {
@@ -102,8 +102,8 @@ impl<'p, H: Host> EntryOp<H> for SymlinkAt<'p> {
     ghost shown = { λ unit. unit };
 
     ghost Did = { λ call old new dir. Performs H.Host old new (may_link dir.perms call.target.now)
-        (meant_by (H.world old).tree
-        (AtPlace ((H.world old).held dir.dir).node call.path.now (Symlink call.target.now))) (λ unit. unit) };
+        (meant_by (H.model old).tree
+        (AtEntry ((H.model old).held dir.dir).node call.path.now (Symlink call.target.now))) (λ unit. unit) };
 
     fn made(self, view: &mut WasiFilesystemCtxView<'_, H>, fd: Resource) -> FsResult<()> {
         view.symlink_at(fd, self.target, self.path)
@@ -124,7 +124,7 @@ impl<'p, H: Host> EntryOp<H> for ReadlinkAt<'p> {
     ghost shown = { λ text. text };
 
     ghost Did = { λ call old new dir answer. IfOk answer IsReadText × Performs H.Host old new None
-        (meant_by (H.world old).tree (AtPlace ((H.world old).held dir.dir).node call.path.now ReadLink))
+        (meant_by (H.model old).tree (AtEntry ((H.model old).held dir.dir).node call.path.now ReadLink))
         string_bytes answer };
 
     fn made(self, view: &mut WasiFilesystemCtxView<'_, H>, fd: Resource) -> FsResult<String> {
@@ -147,8 +147,8 @@ impl<'p, H: Host> EntryOp<H> for StatAt<'p> {
     ghost shown = { stat_named };
 
     ghost Did = { λ call old new dir answer. IfOk answer IsStat × Performs H.Host old new None
-        (meant_as descriptor_stat (meant_by (H.world old).tree
-        (looks ((H.world old).held dir.dir).node call.path.now (path_flags_named call.flags)))) (λ stat. stat) answer };
+        (meant_as descriptor_stat (meant_by (H.model old).tree
+        (looks ((H.model old).held dir.dir).node call.path.now (path_flags_named call.flags)))) (λ stat. stat) answer };
 
     fn made(
         self,
@@ -174,8 +174,8 @@ impl<'p, H: Host> EntryOp<H> for MetadataHashAt<'p> {
     ghost shown = { hash_named };
 
     ghost Did = { λ call old new dir answer. IfOk answer IsHash × Performs H.Host old new None
-        (meant_as metadata_hash (meant_by (H.world old).tree
-        (looks ((H.world old).held dir.dir).node call.path.now (path_flags_named call.flags)))) (λ hash. hash) answer };
+        (meant_as metadata_hash (meant_by (H.model old).tree
+        (looks ((H.model old).held dir.dir).node call.path.now (path_flags_named call.flags)))) (λ hash. hash) answer };
 
     fn made(
         self,
@@ -202,7 +202,7 @@ impl<'p, H: Host> EntryOp<H> for SetTimesAt<'p> {
     ghost shown = { λ unit. unit };
 
     ghost Did = { λ call old new dir. Performs H.Host old new (may_do dir.perms Alter)
-        (meant_by (H.world old).tree (sets_times ((H.world old).held dir.dir).node call.path.now
+        (meant_by (H.model old).tree (sets_times ((H.model old).held dir.dir).node call.path.now
         (path_flags_named call.flags) call.times.atime call.times.mtime)) (λ unit. unit) };
 
     ghost Fits = { λ call. AreSinceEpoch call.times };

@@ -1,7 +1,7 @@
 //! What `path_open` makes: a descriptor of a node that a path names.
 ghost use Rattle.std.specs.Prelude.{◌≡◌, ◌<◌, ◌≤◌, ◌+◌, IsTrue, slice_get, Ok, OnErr, Some, None};
 ghost use Rattle.wasi_host.specs.HostLaws.{Rose};
-ghost use Rattle.wasi_host.specs.Lineage.{Only, Nothing};
+ghost use Rattle.wasi_host.specs.Provenance.{Only, Nothing};
 ghost use Rattle.wasi_p1_model.specs.CallTransition.{Causes};
 ghost use Rattle.wasi_p1_state.specs.Held.{HoldsHandles};
 ghost use Rattle.wasi_p1_model.specs.Owners.{handles, Owns, SlotsTraced, SlotsStay};
@@ -10,7 +10,7 @@ ghost use Rattle.wasi_p1_types.specs.Request.{Path};
 ghost use Rattle.wasi_fs.specs.Calls.{opens};
 ghost use Rattle.wasi_fs.specs.OpenHow.{may_open, mode_of};
 ghost use Rattle.wasi_p2_types.specs.FlagNames.{how_named};
-ghost use Rattle.wasi_p1_types.specs.Parts.{opened_among};
+ghost use Rattle.wasi_p1_types.specs.SpecParts.{opened_among};
 ghost use Rattle.wasi_p1_types.specs.Numbering.{live_count};
 ghost use Rattle.wasi_p1_types.specs.Slots.{is_closed_slot};
 ghost use Rattle.wasi_p1_types.specs.CallParts.{open_directory_of, Refused, OpensInto, with_after, IsReplied};
@@ -46,28 +46,28 @@ pub fn open_into<H: Host>(
     ensures kept { OnErr result (descriptors.new.slots ≡ descriptors.old.slots) }
     ensures owns { Owns (H.live fs.old.host) (H.live fs.new.host)
         (handles descriptors.old.slots) (handles descriptors.new.slots) }
-    ensures lineage { SlotsTraced (Only dir.dir) descriptors.old.slots descriptors.new.slots
+    ensures provenance { SlotsTraced (Only dir.dir) descriptors.old.slots descriptors.new.slots
         (H.lookups fs.old.host) (H.lookups fs.new.host) }
 
     // The row, over every host and over one that tells its world.
     ensures permit { Refused (may_open (how_named with.path_flags with.open_flags with.flags) dir.perms)
-        (with_after result (guest_slots (H.world fs.old.host).held descriptors.new.slots)) fs.old.host fs.new.host }
+        (with_after result (guest_slots (H.model fs.old.host).held descriptors.new.slots)) fs.old.host fs.new.host }
     ensures front { may_open (how_named with.path_flags with.open_flags with.flags) dir.perms ≡ None → IsReplied
-        (Path (opens ((H.world fs.old.host).held dir.dir).node text.now
+        (Path (opens ((H.model fs.old.host).held dir.dir).node text.now
         (how_named with.path_flags with.open_flags with.flags)))
-        (opened_among (guest_slots (H.world fs.old.host).held descriptors.old.slots) dir.perms
+        (opened_among (guest_slots (H.model fs.old.host).held descriptors.old.slots) dir.perms
         (mode_of (how_named with.path_flags with.open_flags with.flags)) with.modes)
-        (with_after result (guest_slots (H.world fs.old.host).held descriptors.new.slots)) }
-    ensures stays { IsTrue H.told → OnErr result
-        (guest_slots (H.world fs.new.host).held descriptors.new.slots
-        ≡ guest_slots (H.world fs.old.host).held descriptors.old.slots) }
-    ensures told { IsTrue H.told → may_open (how_named with.path_flags with.open_flags with.flags) dir.perms ≡ None
+        (with_after result (guest_slots (H.model fs.old.host).held descriptors.new.slots)) }
+    ensures stays { IsTrue H.modelled → OnErr result
+        (guest_slots (H.model fs.new.host).held descriptors.new.slots
+        ≡ guest_slots (H.model fs.old.host).held descriptors.old.slots) }
+    ensures modelled { IsTrue H.modelled → may_open (how_named with.path_flags with.open_flags with.flags) dir.perms ≡ None
         → OpensInto (Rose (H.faults fs.old.host) (H.faults fs.new.host))
-        (H.world fs.old.host) (H.world fs.new.host)
-        (open_directory_of (H.world fs.old.host).held dir) text.now
+        (H.model fs.old.host) (H.model fs.new.host)
+        (open_directory_of (H.model fs.old.host).held dir) text.now
         (how_named with.path_flags with.open_flags with.flags) with.modes
-        (guest_slots (H.world fs.old.host).held descriptors.old.slots)
-        (guest_slots (H.world fs.new.host).held descriptors.new.slots) result }
+        (guest_slots (H.model fs.old.host).held descriptors.old.slots)
+        (guest_slots (H.model fs.new.host).held descriptors.new.slots) result }
 {
     descriptors.reserve()?;
     let number = descriptors.open(fs, fd, &dir, text, with)?;

@@ -1,6 +1,6 @@
 //! The metadata of a node that a path names.
 ghost use Rattle.std.specs.Prelude.{◌≡◌, ◌<◌, slice_get, Ok, IfOk, Some, None};
-ghost use Rattle.wasi_host.specs.Lineage.{HasProvenance, Only, Nothing};
+ghost use Rattle.wasi_host.specs.Provenance.{HasProvenance, Only, Nothing};
 ghost use Rattle.wasi_p1_state.specs.Held.{HoldsHandles};
 ghost use Rattle.wasi_p1_model.specs.Owners.{handles};
 ghost use Rattle.wasi_resolve.specs.PathRequest.{meant_by};
@@ -36,10 +36,10 @@ pub fn stat_both<H: Host>(
     ensures same { descriptors.new ≡ descriptors.old }
     ensures cause { FsCause (H.faults fs.old.host) (H.faults fs.new.host) result }
     ensures live { H.live fs.new.host ≡ H.live fs.old.host }
-    ensures lineage { HasProvenance (Only dir.now.dir) Nothing Nothing (H.lookups fs.old.host) (H.lookups fs.new.host) }
+    ensures provenance { HasProvenance (Only dir.now.dir) Nothing Nothing (H.lookups fs.old.host) (H.lookups fs.new.host) }
     ensures did { Lowered viewed (λ answer. IfOk answer IsStated × Performs H.Host fs.old.host fs.new.host None
-        (meant_as stat_both (meant_by (H.world fs.old.host).tree
-        (looks ((H.world fs.old.host).held dir.now.dir).node text.now (path_flags_named flags))))
+        (meant_as stat_both (meant_by (H.model fs.old.host).tree
+        (looks ((H.model fs.old.host).held dir.now.dir).node text.now (path_flags_named flags))))
         (λ both. both) answer) result }
 {
     let stat = below(fs, descriptors, fd, dir, StatAt { flags, path: text })?;

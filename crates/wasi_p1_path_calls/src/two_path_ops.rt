@@ -7,7 +7,7 @@ ghost use Rattle.wasi_resolve.specs.TwoPathOps.{HardLink, Rename};
 ghost use Rattle.wasi_resolve.specs.PathRequest.{AtTwo, meant_by};
 
 use wasi_host::Host;
-use wasi_p1_state::views::two_places::BetweenCall;
+use wasi_p1_state::views::two_paths::BetweenCall;
 use wasi_p2_calls::types::PathFlags;
 use wasi_p2_calls::{FsResult, WasiFilesystemCtxView};
 use wasi_streams::Resource;
@@ -23,8 +23,8 @@ pub struct LinkAt<'p> {
 impl<'p, H: Host> BetweenCall<H> for LinkAt<'p> {
     ghost Did = { λ call old new dir new_dir. Performs H.Host old new
         (may_add_name dir.perms new_dir.perms (is_followed (path_flags_named call.old_path_flags)))
-        (meant_by (H.world old).tree (AtTwo ((H.world old).held dir.dir).node call.old_path.now
-        ((H.world old).held new_dir.dir).node call.new_path.now HardLink)) (λ unit. unit) };
+        (meant_by (H.model old).tree (AtTwo ((H.model old).held dir.dir).node call.old_path.now
+        ((H.model old).held new_dir.dir).node call.new_path.now HardLink)) (λ unit. unit) };
 
     fn made(
         self,
@@ -51,8 +51,8 @@ pub struct RenameAt<'p> {
 
 impl<'p, H: Host> BetweenCall<H> for RenameAt<'p> {
     ghost Did = { λ call old new dir new_dir. Performs H.Host old new (may_rename dir.perms new_dir.perms)
-        (meant_by (H.world old).tree (AtTwo ((H.world old).held dir.dir).node call.old_path.now
-        ((H.world old).held new_dir.dir).node call.new_path.now Rename)) (λ unit. unit) };
+        (meant_by (H.model old).tree (AtTwo ((H.model old).held dir.dir).node call.old_path.now
+        ((H.model old).held new_dir.dir).node call.new_path.now Rename)) (λ unit. unit) };
 
     fn made(
         self,

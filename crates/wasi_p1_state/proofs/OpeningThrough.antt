@@ -7,7 +7,7 @@ use Rattle.wasi_fs.specs.OpenHow.{OpenHow}
 use Rattle.wasi_fs.specs.declared.descriptor.Descriptor.{Descriptor}
 use Rattle.wasi_fs.specs.declared.descriptor.Descriptor.TheVariants as descriptors
 use Rattle.wasi_fs.specs.declared.descriptor.Dir.{Dir}
-use Rattle.wasi_host.specs.Lineage.{HasProvenance, Only, Nothing}
+use Rattle.wasi_host.specs.Provenance.{HasProvenance, Only, Nothing}
 use Rattle.wasi_host.specs.HostLaws.{FaultCount}
 use Rattle.wasi_host.specs.declared.errors.HostError.{HostError}
 use Rattle.wasi_host.specs.declared.host.Host.{Ghosts}
@@ -65,7 +65,7 @@ module _ {H : Type 0} (host : Ghosts H) (old new : Files H) (fd : ℕ) (dir : Di
           live = subst (λ (a : Result Descriptor HostError). LiveOpened (host.live old.ctx.host) a (host.live new.ctx.host))
               (sym is) (subst (λ (e : Entry). AddsHandle (host.live old.ctx.host) (entry_handle (Some e))
               (host.live new.ctx.host)) same adds);
-          lineage = looks_below (Ok made) answer
+          provenance = looks_below (Ok made) answer
               (λ q got. ap entry_handle at ∙ ap Some (sym (subst (λ (a : Result Descriptor HostError). GotOpened a q) is got)))
               looks;
           perms = below.perms_are;
@@ -81,7 +81,7 @@ module _ {H : Type 0} (host : Ghosts H) (old new : Files H) (fd : ℕ) (dir : Di
     subst (λ (a : Result Descriptor HostError). OpenedBelow host old.ctx.host new.ctx.host dir path how a) is (record {
       live = subst (λ (a : Result Descriptor HostError). LiveOpened (host.live old.ctx.host) a (host.live new.ctx.host))
           (sym is) live;
-      lineage = looks_below (Err e) answer
+      provenance = looks_below (Err e) answer
           (λ q got. subst (λ (a : Result Descriptor HostError). GotOpened a q) is got) looks;
       perms = below.perms_are;
       mode = below.mode;

@@ -3,7 +3,7 @@ use Rattle.std.proofs.Common.{ℕ, ◌≡◌, inl, Result, Ok, Err, refl, ap, su
 use Rattle.wasi_fs.specs.Calls.{asks_at}
 use Rattle.wasi_guest.specs.declared.errno.Errno.TheVariants.{Io}
 use Rattle.wasi_host.specs.HostCall.{SetSize}
-use Rattle.wasi_host.specs.HostLaws.{World, Handles, FaultCount, HasCause}
+use Rattle.wasi_host.specs.HostLaws.{HostModel, Handles, FaultCount, HasCause}
 use Rattle.wasi_host.specs.declared.errors.ErrorCode.TheVariants.{Io as HostIo}
 use Rattle.wasi_host.specs.declared.errors.HostError.{HostError}
 use Rattle.wasi_host.specs.declared.errors.HostError.TheVariants.{Code as Failed}
@@ -99,7 +99,7 @@ size_replied f size (Ok done) = (tt, tt, refl)
 size_replied f size (Err e) = rw (same_error e) (inl (e, refl))
 
 -- over one that tells: it is the request
-pub size_made : {rose : Type 0} {live : Handles} {w v : World} {f : OpenHandle} {size : ℕ} (answer : Result (Unit {0}) HostError)
+pub size_made : {rose : Type 0} {live : Handles} {w v : HostModel} {f : OpenHandle} {size : ℕ} (answer : Result (Unit {0}) HostError)
     → ((e : HostError) → answer ≡ Err e → e ≡ Failed HostIo → rose)
     → Resolved live w v (asks_at w.tree (SetSize f size) f.node) (λ unit. unit) answer
     → Makes rose live w v (Direct (SetSize f size)) (λ _. give tt) (view_raised (raised (λ unit. unit) answer))

@@ -58,9 +58,9 @@ same_filestat both = rw (
 ) refl
 
 -- so what is made of the one is made of the other
-pub shown_row : {both : ViewedStat} {m : CallResult Filestat} (b : StatBoth) → both ≡ viewed b → m ≡ viewed_filestat both
+pub shown_spec : {both : ViewedStat} {m : CallResult Filestat} (b : StatBoth) → both ≡ viewed b → m ≡ viewed_filestat both
     → filestat_in b ≡ m
-shown_row b is row = sym (same_filestat b) ∙ ap viewed_filestat (sym is) ∙ sym row
+shown_spec b is specified = sym (same_filestat b) ∙ ap viewed_filestat (sym is) ∙ sym specified
 
 -- the same of a file's descriptor
 pub told_fdstat : {kind : Viewed} {filetype : Filetype} (mode : OpenMode) (modes : FileModes) (lower_kind : DescriptorType)
@@ -82,10 +82,10 @@ told_fdstat mode modes lower_kind is named =
 pub look_refused : {H A B : Type 0} {host : Ghosts H} {old new : H} {r : Request} {next : Reply r → CallResult A}
     {first last : FaultCount} {Did : Result B HostError → Type 0} {e : FsError} {result : CallResult A}
     (lower : LowerRefusal first last Did e) → IsErrAnd result (λ f. f ≡ view_error_of e) → NotMemory lower.error
-    → (IsTrue host.told → Makes (Rose (host.faults old) (host.faults new)) (host.live old) (host.world old)
-    (host.world new) r next (Err (error_of lower.error))) → LookMakes host old new r next result
-look_refused lower is never told = rw (refusal_is lower is) (record {
+    → (IsTrue host.modelled → Makes (Rose (host.faults old) (host.faults new)) (host.live old) (host.model old)
+    (host.model new) r next (Err (error_of lower.error))) → LookMakes host old new r next result
+look_refused lower is never modelled = rw (refusal_is lower is) (record {
   never_wants = not_wanted _ never;
   front = inl (lower.error, refl);
-  told = told;
+  modelled = modelled;
 })

@@ -9,9 +9,9 @@ use Rattle.std.specs.FinSet.{contains}
 use Rattle.wasi_fs.specs.Calls.{handle_of, syncs, NotMemory}
 use Rattle.wasi_fs.specs.declared.descriptor.Descriptor.{Descriptor}
 use Rattle.wasi_fs.specs.declared.descriptor.Descriptor.TheVariants as descriptors
-use Rattle.wasi_host.specs.Lineage.{HasProvenance, Only, OneOf}
+use Rattle.wasi_host.specs.Provenance.{HasProvenance, Only, OneOf}
 use Rattle.wasi_host.specs.declared.system_time.SystemTime.{SystemTime}
-use Rattle.wasi_host.specs.HostLaws.{World, Handles, FaultCount, HasCause}
+use Rattle.wasi_host.specs.HostLaws.{HostModel, Handles, FaultCount, HasCause}
 use Rattle.wasi_host.specs.declared.errors.ErrorCode.{ErrorCode}
 use Rattle.wasi_host.specs.declared.errors.ErrorCode.TheVariants as codes
 use Rattle.wasi_host.specs.declared.errors.HostError.TheVariants as hosts
@@ -38,7 +38,7 @@ use Rattle.wasi_p2_calls.specs.Views.{CallsOn, Files, Passes, Performs, tree_in}
 use Rattle.wasi_p2_calls.specs.declared.context.Preopen.{Preopen}
 use Rattle.wasi_p2_types.specs.declared.error.FsError.{FsError}
 use Rattle.wasi_p2_types.specs.declared.error_code.ErrorCode.TheVariants.{BadDescriptor}
-use Rattle.wasi_p1_model.specs.CallTransition.{FollowsRow}
+use Rattle.wasi_p1_model.specs.CallTransition.{FollowsSpec}
 use Rattle.wasi_p1_state.specs.Descriptors.{AreKept, SlotTable}
 use Rattle.wasi_p1_types.specs.Errnos.{errno_of, error_of}
 use Rattle.wasi_p1_state.specs.Held.{HoldsHandles}
@@ -261,7 +261,7 @@ pub stored_file : {H : Type 0} {host : Ghosts H} {old new : Files H} {result : R
     → (file : OpenedFile) → get old.table.entries n ≡ Some (entries.Descriptor (descriptors.File file))
     → (host.lookups new.ctx.host ≡ host.lookups old.ctx.host) × Lowered (λ unit. unit) (λ answer. IfErr answer NotMemory
     × Performs host old.ctx.host new.ctx.host None
-    (syncs (tree_in host old) (host.world old.ctx.host).held (descriptors.File file)) (λ unit. unit) answer) result
+    (syncs (tree_in host old) (host.model old.ctx.host).held (descriptors.File file)) (λ unit. unit) answer) result
 stored_file {old = old} n call file is =
     let (answer, shown, (never, logged, performs)) =
     lowered _ _ _ (descriptors.File file) (descriptor_stands old.table.entries n is) call.did in
@@ -375,12 +375,12 @@ same_error hosts.Memory = refl
 same_error (hosts.Code code) = ap ByNumber (named_twice code)
 
 -- a refusal by the lower one's error, as the exit of a `?` gives it
-pub on_refusal : {A H : Type 0} {told : Bool} {world : H → World} {faults : H → FaultCount} {lookups : H → List Lookup}
+pub on_refusal : {A H : Type 0} {modelled : Bool} {model : H → HostModel} {faults : H → FaultCount} {lookups : H → List Lookup}
     {old new : View H} {before after : List ℕ} {call : Call} {first last : FaultCount}
     {Did : Result A HostError → Type 0} {e : FsError} {result : Result Value P1Error} (lower : LowerRefusal first last Did e)
     → IsErrAnd result (λ f. f ≡ view_error_of e)
-    → FollowsRow told world faults lookups old new before after call (Err (error_of lower.error))
-    → FollowsRow told world faults lookups old new before after call result
+    → FollowsSpec modelled model faults lookups old new before after call (Err (error_of lower.error))
+    → FollowsSpec modelled model faults lookups old new before after call result
 on_refusal {result = result} lower is follows =
     on_err (subst (λ (x : P1Error). IsErrAnd result (λ f. f ≡ x)) (ap view_error_of lower.same ∙ same_error lower.error) is)
     follows

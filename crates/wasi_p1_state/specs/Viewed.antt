@@ -5,7 +5,7 @@ use Rattle.wasi_fs.specs.Calls.{open_mode_of, opened_of, opens, perms_of, GotOpe
 use Rattle.wasi_fs.specs.OpenHow.{may_open, mode_of, OpenHow}
 use Rattle.wasi_fs.specs.declared.descriptor.Descriptor.{Descriptor}
 use Rattle.wasi_fs.specs.declared.descriptor.Dir.{Dir}
-use Rattle.wasi_host.specs.Lineage.{HasProvenance, Only, Nothing}
+use Rattle.wasi_host.specs.Provenance.{HasProvenance, Only, Nothing}
 use Rattle.wasi_host.specs.declared.host.Host.{Ghosts}
 use Rattle.wasi_resolve.specs.PathRequest.{meant_by}
 use Rattle.wasi_streams.specs.Table.{Entries}
@@ -40,13 +40,13 @@ LoweredTo {A = A} shown Did result =
 pub record OpenedBelow {H : Type 0} (host : Ghosts H) (old new : H) (dir : Dir) (path : List ℕ) (how : OpenHow)
     (answer : Result Descriptor HostError) : Type 0 where
   pub live : LiveOpened (host.live old) answer (host.live new)
-  pub lineage : HasProvenance (Only dir.dir) Nothing (GotOpened answer) (host.lookups old) (host.lookups new)
+  pub provenance : HasProvenance (Only dir.dir) Nothing (GotOpened answer) (host.lookups old) (host.lookups new)
   pub perms : IfOk answer (λ d. perms_of d ≡ dir.perms)
   pub mode : IfOk answer (λ d. open_mode_of d ≡ mode_of how)
   pub kind : IfOk answer (IsAsked how.directory)
   pub performs : Performs host old new (may_open how dir.perms)
-      (meant_by (host.world old).tree (opens ((host.world old).held dir.dir).node path how))
-      (opened_of (host.world new).held) answer
+      (meant_by (host.model old).tree (opens ((host.model old).held dir.dir).node path how))
+      (opened_of (host.model new).held) answer
 
 -- the same, where what was opened is put somewhere, and a refusal leaves that
 abbrev pub Opens : {H A : Type 0} → Ghosts H → H → H → Dir → List ℕ → OpenHow → (A → Descriptor → Type 0) → Type 0

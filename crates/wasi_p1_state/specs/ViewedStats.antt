@@ -24,8 +24,8 @@ pub record LookMakes {H A : Type 0} (host : Ghosts H) (old new : H) (r : Request
     (result : CallResult A) : Type 0 where
   pub never_wants : IfErr result WantsNoMemory
   pub front : IsReplied r next result
-  pub told : IsTrue host.told → Makes (Rose (host.faults old) (host.faults new)) (host.live old)
-      (host.world old) (host.world new) r next result
+  pub modelled : IsTrue host.modelled → Makes (Rose (host.faults old) (host.faults new)) (host.live old)
+      (host.model old) (host.model new) r next result
 
 -- what the crates below say of it, as preview2 does
 abbrev pub viewed : StatBoth → ViewedStat

@@ -66,7 +66,7 @@ impl<H: Host> P1State<H> {
     ghost use Rattle.wasi_p1_state.specs.LiveEntries.{AreLiveDescriptors};
     ghost use Rattle.wasi_p1_types.specs.Numbering.{live_count};
     ghost use Rattle.wasi_p1_model.specs.Owners.{OwnedApart, handles};
-    ghost use Rattle.wasi_p1_types.specs.Slots.{first_slots, given_name, is_closed_slot};
+    ghost use Rattle.wasi_p1_types.specs.Slots.{first_slots, name_of_preopen, is_closed_slot};
     ghost use Rattle.wasi_p1_types.specs.declared.error.CtxError.TheVariants.{Full};
     ghost use Rattle.wasi_guest.specs.Quotas.{IsQuota};
     ghost use Rattle.wasi_guest.specs.Services.{handed};
@@ -96,7 +96,7 @@ impl<H: Host> P1State<H> {
               host = host;
               slots = first_slots preopens.items;
               table_max = table_max;
-              holdings = first_stock (handed services) (map given_name preopens.items);
+              holdings = first_stock (handed services) (map name_of_preopen preopens.items);
               fuel = first_fuel;
             }) }
         ensures handed_back { IfErr result (λ refused. refused.host ≡ host) }
@@ -218,11 +218,11 @@ impl<H: Forget> P1State<H> {
         ensures faults { H.faults self.new.host ≡ H.faults self.old.host }
         ensures live { H.live self.new.host ≡ H.live self.old.host }
         ensures logged { H.lookups self.new.host ≡ H.lookups self.old.host }
-        ensures world { IsTrue H.told → H.world self.new.host ≡ forgotten (H.world self.old.host) }
-        ensures fails { IsTrue H.tells_fails → (n : ℕ) → H.fails self.new.host n ≡ H.fails self.old.host n }
-        ensures others { IsTrue H.tells_found → (n : ℕ) (t : Tree) → H.others self.new.host n t ≡ H.others self.old.host n t }
-        ensures found { IsTrue H.tells_found → H.found self.new.host ≡ H.found self.old.host }
-        ensures left { IsTrue H.tells_found → H.left self.new.host ≡ forgotten (H.left self.old.host) }
+        ensures model { IsTrue H.modelled → H.model self.new.host ≡ forgotten (H.model self.old.host) }
+        ensures fails { IsTrue H.fails_modelled → (n : ℕ) → H.fails self.new.host n ≡ H.fails self.old.host n }
+        ensures others { IsTrue H.found_modelled → (n : ℕ) (t : Tree) → H.others self.new.host n t ≡ H.others self.old.host n t }
+        ensures found { IsTrue H.found_modelled → H.found self.new.host ≡ H.found self.old.host }
+        ensures left { IsTrue H.found_modelled → H.left self.new.host ≡ forgotten (H.left self.old.host) }
     {
         self.fs.host.forget();
     }

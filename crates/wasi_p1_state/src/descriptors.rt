@@ -269,8 +269,8 @@ impl Descriptors {
         ensures logged { H.lookups fs.new.host ≡ H.lookups fs.old.host }
         ensures live { H.live fs.new.host
             ≡ without (H.live fs.old.host) (handle_in (slice_index_or self.old.slots fd Slot.Closed)) }
-        ensures told { IsTrue H.told → Rests (H.live fs.old.host) (H.live fs.new.host) (H.world fs.old.host)
-            (H.world fs.new.host) }
+        ensures modelled { IsTrue H.modelled → Rests (H.live fs.old.host) (H.live fs.new.host) (H.model fs.old.host)
+            (H.model fs.new.host) }
         ensures slots { self.new.slots ≡ slice_set self.old.slots fd Slot.Closed }
         ensures max { self.new.max ≡ self.old.max }
         ensures room { self.old.room < self.new.room }
@@ -297,8 +297,8 @@ impl Descriptors {
         ensures logged { H.lookups fs.new.host ≡ H.lookups fs.old.host }
         ensures live { H.live fs.new.host
             ≡ without (H.live fs.old.host) (handle_in (slice_index_or self.old.slots to Slot.Closed)) }
-        ensures told { IsTrue H.told → Rests (H.live fs.old.host) (H.live fs.new.host) (H.world fs.old.host)
-            (H.world fs.new.host) }
+        ensures modelled { IsTrue H.modelled → Rests (H.live fs.old.host) (H.live fs.new.host) (H.model fs.old.host)
+            (H.model fs.new.host) }
         ensures slots { self.new.slots ≡ renumbered Slot.Closed self.old.slots from to }
         ensures max { self.new.max ≡ self.old.max }
         ensures room { self.old.room < self.new.room }

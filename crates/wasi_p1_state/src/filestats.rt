@@ -33,7 +33,7 @@ pub fn filetype_named(kind: types::DescriptorType) -> Filetype
 
 /// A moment in nanoseconds since the epoch, 0 where it isn't kept, and Overflow past what 64 bits hold.
 fn wall_nanoseconds(moment: Option<WallDatetime>) -> Result<u64, P1Error>
-    ensures row { result ≡ wall_nanoseconds moment }
+    ensures specified { result ≡ wall_nanoseconds moment }
     ensures refusal { IfErr result (λ e. is_failure e ≡ false) }
     ensures never_wants { IfErr result WantsNoMemory }
 {
@@ -47,7 +47,7 @@ impl ViewedStat {
     /// The record. A time before the epoch stands as 0. Refusal: Overflow of one that 64 bits of nanoseconds don't hold.
     #[tactic(auto, unfolding(crate::specs::ViewedStats::viewed_filestat))]
     pub fn filestat(&self) -> Result<Filestat, P1Error>
-        ensures row { result ≡ viewed_filestat self.now }
+        ensures specified { result ≡ viewed_filestat self.now }
         ensures refusal { IfErr result (λ e. is_failure e ≡ false) }
         ensures never_wants { IfErr result WantsNoMemory }
     {

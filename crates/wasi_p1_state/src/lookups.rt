@@ -5,10 +5,10 @@ ghost use Rattle.std.specs.FinSet.{contains};
 ghost use Rattle.wasi_p1_model.specs.Owners.{handles, HasHandle, Owned};
 ghost use Rattle.wasi_p1_types.specs.Guest.{guest_slot, guest_slots};
 ghost use Rattle.wasi_fs.specs.Calls.{handle_of};
-ghost use Rattle.wasi_p1_types.specs.Parts.{live_in, directory_or, source_in, sink_in, open_node_in, room_for};
+ghost use Rattle.wasi_p1_types.specs.SpecParts.{live_in, directory_or, read_target_in, write_target_in, open_node_in, room_for};
 ghost use Rattle.wasi_p1_types.specs.Numbering.{live_count};
 ghost use Rattle.wasi_p1_types.specs.Slots.{file_under, is_closed_slot};
-ghost use Rattle.wasi_p1_types.specs.CallParts.{open_directory_of, open_file_of, source_of, sink_of, OfSource, OfSink, open_node_of, is_failure};
+ghost use Rattle.wasi_p1_types.specs.CallParts.{open_directory_of, open_file_of, read_target_of, write_target_of, OfReadTarget, OfWriteTarget, open_node_of, is_failure};
 ghost use Rattle.wasi_p1_types.specs.Files.{file_in, stream_refused};
 ghost use Rattle.wasi_p1_types.specs.declared.error.P1Error.TheVariants as errors;
 ghost use Rattle.wasi_p1_types.specs.declared.usage.FileUse.TheVariants.{ReadAt};
@@ -19,7 +19,7 @@ use wasi_fs::{Descriptor, Dir, File};
 use wasi_guest::{Errno, TrapKind};
 use wasi_host::Host;
 use wasi_p1_types::{
-    DirectorySlot, FileModes, FileSlot, FileUse, Output, P1Error, Sink, Slot, Source, Stream,
+    DirectorySlot, FileModes, FileSlot, FileUse, Output, P1Error, WriteTarget, Slot, ReadTarget, Stream,
 };
 
 /// What a live number stands for.
@@ -27,8 +27,8 @@ use wasi_p1_types::{
 pub fn live_at<H: Host>(host: &H, descriptors: &Descriptors, fd: u32) -> Result<Slot, P1Error>
     ensures is { IfOk result (λ slot. slice_get descriptors.now.slots fd ≡ Some slot) }
     ensures in_use { IfOk result (λ slot. is_closed_slot slot ≡ false) }
-    ensures row { result_map_both (guest_slot (H.world host.now).held) (λ e. e) result
-        ≡ live_in (slice_get (guest_slots (H.world host.now).held descriptors.now.slots) fd) }
+    ensures specified { result_map_both (guest_slot (H.model host.now).held) (λ e. e) result
+        ≡ live_in (slice_get (guest_slots (H.model host.now).held descriptors.now.slots) fd) }
 {
     let Some(slot) = descriptors.get(fd) else {
         return Err(P1Error::Errno(Errno::Badf));
@@ -51,8 +51,8 @@ pub fn directory_at<H: Host>(
     ensures live { IfOk result (λ dir. contains (H.live host.now) dir.dir ≡ true) }
     ensures is { IfOk result (λ dir. HasHandle descriptors.now.slots fd dir.dir) }
     ensures stands { IfOk result (λ dir. descriptor_under (slice_get descriptors.now.slots fd) ≡ Some (Descriptor.Dir dir)) }
-    ensures row { result_map_both (open_directory_of (H.world host.now).held) (λ e. e) result
-        ≡ directory_or of_file (slice_get (guest_slots (H.world host.now).held descriptors.now.slots) fd) }
+    ensures specified { result_map_both (open_directory_of (H.model host.now).held) (λ e. e) result
+        ≡ directory_or of_file (slice_get (guest_slots (H.model host.now).held descriptors.now.slots) fd) }
 {
     let Some(slot) = descriptors.get(fd) else {
         return Err(P1Error::Errno(Errno::Badf));
@@ -76,8 +76,8 @@ pub fn descriptor_at<H: Host>(
     ensures live { IfOk result (λ descriptor. contains (H.live host.now) (handle_of descriptor) ≡ true) }
     ensures is { IfOk result (λ descriptor. HasHandle descriptors.now.slots fd (handle_of descriptor)) }
     ensures stands { IfOk result (λ descriptor. descriptor_under (slice_get descriptors.now.slots fd) ≡ Some descriptor) }
-    ensures row { result_map_both (open_node_of (H.world host.now).held) (λ e. e) result
-        ≡ open_node_in (slice_get (guest_slots (H.world host.now).held descriptors.now.slots) fd) }
+    ensures specified { result_map_both (open_node_of (H.model host.now).held) (λ e. e) result
+        ≡ open_node_in (slice_get (guest_slots (H.model host.now).held descriptors.now.slots) fd) }
 {
     let Some(slot) = descriptors.get(fd) else {
         return Err(P1Error::Errno(Errno::Badf));
@@ -92,19 +92,19 @@ pub fn descriptor_at<H: Host>(
 
 /// What is read by a number: Badf where that is neither a file's nor the standard input's.
 #[tactic(auto, using(wasi_p1_model::proofs::SlotRules::slots))]
-pub fn source_at<H: Host>(host: &H, descriptors: &Descriptors, fd: u32) -> Result<Source, P1Error>
+pub fn read_target_at<H: Host>(host: &H, descriptors: &Descriptors, fd: u32) -> Result<ReadTarget, P1Error>
     requires owned { Owned (H.live host.now) (handles descriptors.now.slots) }
-    ensures live { IfOk result (OfSource (λ file. contains (H.live host.now) file.file.file ≡ true)) }
-    ensures is { IfOk result (OfSource (λ file. slice_get descriptors.now.slots fd ≡ Some (Slot.File file))) }
-    ensures row { result_map_both (source_of (H.world host.now).held) (λ e. e) result
-        ≡ source_in (slice_get (guest_slots (H.world host.now).held descriptors.now.slots) fd) }
+    ensures live { IfOk result (OfReadTarget (λ file. contains (H.live host.now) file.file.file ≡ true)) }
+    ensures is { IfOk result (OfReadTarget (λ file. slice_get descriptors.now.slots fd ≡ Some (Slot.File file))) }
+    ensures specified { result_map_both (read_target_of (H.model host.now).held) (λ e. e) result
+        ≡ read_target_in (slice_get (guest_slots (H.model host.now).held descriptors.now.slots) fd) }
 {
     let Some(slot) = descriptors.get(fd) else {
         return Err(P1Error::Errno(Errno::Badf));
     };
     match slot {
-        Slot::File(file) => Ok(Source::File(file)),
-        Slot::Stream(Stream::Input) => Ok(Source::Input),
+        Slot::File(file) => Ok(ReadTarget::File(file)),
+        Slot::Stream(Stream::Input) => Ok(ReadTarget::Input),
         Slot::Stream(Stream::Output) => Err(P1Error::Errno(Errno::Badf)),
         Slot::Stream(Stream::Error) => Err(P1Error::Errno(Errno::Badf)),
         Slot::Directory(_) => Err(P1Error::Errno(Errno::Badf)),
@@ -114,20 +114,20 @@ pub fn source_at<H: Host>(host: &H, descriptors: &Descriptors, fd: u32) -> Resul
 
 /// What is written by a number: Badf where that is neither a file's nor an output's.
 #[tactic(auto, using(wasi_p1_model::proofs::SlotRules::slots))]
-pub fn sink_at<H: Host>(host: &H, descriptors: &Descriptors, fd: u32) -> Result<Sink, P1Error>
+pub fn write_target_at<H: Host>(host: &H, descriptors: &Descriptors, fd: u32) -> Result<WriteTarget, P1Error>
     requires owned { Owned (H.live host.now) (handles descriptors.now.slots) }
-    ensures live { IfOk result (OfSink (λ file. contains (H.live host.now) file.file.file ≡ true)) }
-    ensures is { IfOk result (OfSink (λ file. slice_get descriptors.now.slots fd ≡ Some (Slot.File file))) }
-    ensures row { result_map_both (sink_of (H.world host.now).held) (λ e. e) result
-        ≡ sink_in (slice_get (guest_slots (H.world host.now).held descriptors.now.slots) fd) }
+    ensures live { IfOk result (OfWriteTarget (λ file. contains (H.live host.now) file.file.file ≡ true)) }
+    ensures is { IfOk result (OfWriteTarget (λ file. slice_get descriptors.now.slots fd ≡ Some (Slot.File file))) }
+    ensures specified { result_map_both (write_target_of (H.model host.now).held) (λ e. e) result
+        ≡ write_target_in (slice_get (guest_slots (H.model host.now).held descriptors.now.slots) fd) }
 {
     let Some(slot) = descriptors.get(fd) else {
         return Err(P1Error::Errno(Errno::Badf));
     };
     match slot {
-        Slot::File(file) => Ok(Sink::File(file)),
-        Slot::Stream(Stream::Output) => Ok(Sink::Output(Output::Stdout)),
-        Slot::Stream(Stream::Error) => Ok(Sink::Output(Output::Stderr)),
+        Slot::File(file) => Ok(WriteTarget::File(file)),
+        Slot::Stream(Stream::Output) => Ok(WriteTarget::Output(Output::Stdout)),
+        Slot::Stream(Stream::Error) => Ok(WriteTarget::Output(Output::Stderr)),
         Slot::Stream(Stream::Input) => Err(P1Error::Errno(Errno::Badf)),
         Slot::Directory(_) => Err(P1Error::Errno(Errno::Badf)),
         Slot::Closed => Err(P1Error::Errno(Errno::Badf)),
@@ -137,7 +137,7 @@ pub fn sink_at<H: Host>(host: &H, descriptors: &Descriptors, fd: u32) -> Result<
 /// Trap TableFull where so many more descriptors may not be live. `host` is named by the clauses alone.
 pub fn room_at<H: Host>(host: &H, descriptors: &Descriptors, more: u32) -> Result<(), P1Error>
     ensures fits { OnOk result (live_count is_closed_slot descriptors.now.slots + more ≤ descriptors.now.max) }
-    ensures row { result ≡ room_for (guest_slots (H.world host.now).held descriptors.now.slots)
+    ensures specified { result ≡ room_for (guest_slots (H.model host.now).held descriptors.now.slots)
         descriptors.now.max more }
     ensures refusal { IfErr result (λ e. is_failure e ≡ false) }
 {
@@ -165,7 +165,7 @@ pub fn put_back(descriptors: &mut Descriptors, fd: u32, file: File, position: u6
 
 /// How a standard stream is refused where a file is asked for.
 fn stream_refusal(wanted: FileUse, stream: Stream) -> P1Error
-    ensures row { result ≡ errors.Errno (stream_refused wanted stream) }
+    ensures specified { result ≡ errors.Errno (stream_refused wanted stream) }
     ensures refusal { is_failure result ≡ false }
 {
     let errno = match wanted {
@@ -198,8 +198,8 @@ pub fn file_at<H: Host>(
     ensures stands { IfOk result (λ f. descriptor_under (slice_get descriptors.now.slots fd)
         ≡ Some (Descriptor.File f.file)) }
     ensures refusal { IfErr result (λ e. is_failure e ≡ false) }
-    ensures row { result_map_both (open_file_of (H.world host.now).held) (λ e. e) result
-        ≡ file_in wanted (slice_get (guest_slots (H.world host.now).held descriptors.now.slots) fd) }
+    ensures specified { result_map_both (open_file_of (H.model host.now).held) (λ e. e) result
+        ≡ file_in wanted (slice_get (guest_slots (H.model host.now).held descriptors.now.slots) fd) }
 {
     let Some(slot) = descriptors.get(fd) else {
         return Err(P1Error::Errno(Errno::Badf));

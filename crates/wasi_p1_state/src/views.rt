@@ -3,14 +3,14 @@
 ghost use Rattle.std.specs.Prelude.{◌≡◌, false, slice_get, slice_index_or, Result, Some};
 ghost use Rattle.wasi_fs.specs.declared.descriptor.Descriptor.{Descriptor as Opened};
 ghost use Rattle.wasi_fs.specs.declared.descriptor.Dir.{Dir as Directory};
-ghost use Rattle.wasi_host.specs.Lineage.{HasProvenance, Only, Nothing};
+ghost use Rattle.wasi_host.specs.Provenance.{HasProvenance, Only, Nothing};
 ghost use Rattle.wasi_host.specs.declared.errors.HostError.{HostError};
 ghost use Rattle.wasi_p1_state.specs.Held.{HoldsHandles};
 ghost use Rattle.wasi_p1_types.specs.Items.{is_closed_item, NamesResource};
 ghost use Rattle.wasi_p1_state.specs.Viewed.{descriptor_under, Lowered};
 ghost use Rattle.wasi_p2_types.specs.FsErrors.{FsCause};
 ghost use Rattle.wasi_p2_calls.specs.Nodes.{AboutIt};
-ghost use Rattle.wasi_p2_calls.specs.Places.{BelowIt};
+ghost use Rattle.wasi_p2_calls.specs.PathOps.{BelowIt};
 ghost use Rattle.wasi_p2_calls.specs.Views.{files_of, FilesOwned};
 ghost use Rattle.wasi_p1_model.specs.Owners.{handles};
 ghost use Rattle.wasi_p1_types.specs.ViewErrors.{view_raised};
@@ -18,7 +18,7 @@ ghost use Rattle.wasi_p1_types.specs.ViewErrors.{view_raised};
 pub mod closing;
 pub mod files;
 pub mod opening;
-pub mod two_places;
+pub mod two_paths;
 
 use crate::descriptors::Descriptors;
 use wasi_fs::{Descriptor, Dir};
@@ -95,7 +95,7 @@ pub fn below<H: Host, C: EntryOp<H>>(
     ensures same { descriptors.new ≡ descriptors.old }
     ensures cause { FsCause (H.faults fs.old.host) (H.faults fs.new.host) result }
     ensures live { H.live fs.new.host ≡ H.live fs.old.host }
-    ensures lineage { HasProvenance (Only dir.now.dir) Nothing Nothing (H.lookups fs.old.host) (H.lookups fs.new.host) }
+    ensures provenance { HasProvenance (Only dir.now.dir) Nothing Nothing (H.lookups fs.old.host) (H.lookups fs.new.host) }
     ensures did { Lowered C.shown (C.Did call fs.old.host fs.new.host dir.now) result }
 {
     let resource = resource_under(&descriptors.items, fd);

@@ -5,7 +5,7 @@ use Rattle.wasi_paths.specs.Parts.{Component, RootDir, CurDir, ParentDir, Normal
 use Rattle.wasi_host.specs.Answer.{Listed, host_answer, list_answer, open_answer, unless}
 use Rattle.wasi_host.specs.HostCall.{HostCall, Access, Append, ListDir, OpenAt, RenameAt, Stat, StatAt}
 use Rattle.wasi_host.specs.Options.{Options}
-use Rattle.wasi_host.specs.Refusal.{first_rule, moving_rows, naming_rows, loop_rows, refusal, refusal_rules}
+use Rattle.wasi_host.specs.Refusal.{first_rule, moving_rules, naming_rules, loop_rules, refusal, refusal_rules}
 use Rattle.wasi_host.specs.Step.{step}
 use Rattle.wasi_host.specs.Steps.{◌>>=◌}
 use Rattle.wasi_host.specs.Tree.{Tree, child, hold_one, node_at}
@@ -16,7 +16,7 @@ use Rattle.wasi_host.proofs.Refusals.{unless_refused as answered_unless}
 use Rattle.wasi_resolve.specs.EntryOps.{EntryOp, CreateDir, ReadLink, RemoveDir, RemoveFile, SetTimes, Symlink, answer_in, call_at, place_for, unrooted}
 use Rattle.wasi_resolve.specs.TwoPathOps.{TwoPathOp, asks_directory, call_at_two, places_for, text_for}
 use Rattle.wasi_resolve.specs.Meanings.{lists_at, listing_options}
-use Rattle.wasi_resolve.specs.PathRequest.{AtPlace, AtTwo, LookPath, OpenPath, Opened, PathRequest, TimesPath, answer_at, as_asked, path_reply}
+use Rattle.wasi_resolve.specs.PathRequest.{AtEntry, AtTwo, LookPath, OpenPath, Opened, PathRequest, TimesPath, answer_at, as_asked, path_reply}
 use Rattle.wasi_resolve.specs.Paths.{Opening, Place, access_unsupported, behind_slash, directory_options, looked, looked_at, opened, opened_by, opening, opening_of, or_else, parent, place, place_at, reading, timed, timed_again, writing}
 use Rattle.wasi_resolve.specs.Walk.{Aim, Dot, Ended, Leg, Linked, Look, Name, Open, Outcome, Position, Stop, Walk, at, ended, is_to_be_read, leg, one_link_more, refused, resume, unless_refused, walk, walk_from}
 use Rattle.wasi_p1_types.specs.Errnos.{errno_of}
@@ -47,22 +47,22 @@ first_known [] known = tt
 first_known ((true, code) ∷ rows) known = (and_parts (is_known code) (all_known rows) known).0
 first_known ((false, code) ∷ rows) known = first_known rows (and_parts (is_known code) (all_known rows) known).1
 
-rows_known : (t : Tree) (call : HostCall) → IsTrue (all_known (refusal_rules t call))
-rows_known t (RenameAt old old_name new new_name requires_dir) =
+rules_known : (t : Tree) (call : HostCall) → IsTrue (all_known (refusal_rules t call))
+rules_known t (RenameAt old old_name new new_name requires_dir) =
     by (hold_one (child t old old_name) (child t new new_name))
   where
-    by : (b : Bool) → IsTrue (all_known (naming_rows t old old_name new new_name requires_dir
-        ++ (loop_rows t old new (child t old old_name) (child t new new_name)
-        ++ cond b [] (moving_rows t old new (child t old old_name) (child t new new_name)))))
+    by : (b : Bool) → IsTrue (all_known (naming_rules t old old_name new new_name requires_dir
+        ++ (loop_rules t old new (child t old old_name) (child t new new_name)
+        ++ cond b [] (moving_rules t old new (child t old old_name) (child t new new_name)))))
     by true = refl
     by false = refl
-rows_known t call = refl
+rules_known t call = refl
 
 -- ---- the host's table
 
 pub refusal_known : (t : Tree) (call : HostCall) → IfSome (refusal t call) IsKnown
 unfolding refusal
-refusal_known t call = first_known (refusal_rules t call) (rows_known t call)
+refusal_known t call = first_known (refusal_rules t call) (rules_known t call)
 
 unless_known : {B : Type 0} (own : Option ErrorCode) (x : B) → IfSome own IsKnown → Knows (unless own x)
 unless_known None x known = tt
@@ -255,7 +255,7 @@ path_known t (OpenPath s text o follow directory) =
     by found true = refl
     by found false = tt
 path_known t (LookPath s text follow) = then (looked t s text follow) _ (looked_known t s text follow) (λ _. tt)
-path_known t (AtPlace s text what) = at_place_known t s text what
+path_known t (AtEntry s text what) = at_place_known t s text what
 path_known t (TimesPath s text true atime mtime) = then (timed t s text) _ (timed_known t s text) (λ _. tt)
 path_known t (TimesPath s text false atime mtime) = at_place_known t s text (SetTimes atime mtime)
 path_known t (AtTwo old old_text new new_text what) = then (places_for t old old_text new new_text what) _

@@ -10,7 +10,7 @@ use Rattle.wasi_p2_types.specs.declared.flags.PathFlags.{PathFlags}
 use Rattle.wasi_p2_types.specs.declared.flags.OpenFlags.{OpenFlags}
 use Rattle.wasi_p2_types.specs.declared.flags.DescriptorFlags.{DescriptorFlags}
 use Rattle.wasi_p2_types.specs.FlagBits.{path_set, open_set, descriptor_set}
-use Rattle.wasi_p1_types.specs.Parts.{permit}
+use Rattle.wasi_p1_types.specs.SpecParts.{permit}
 use Rattle.wasi_p1_types.specs.CallResult.{CallResult}
 
 abbrev same : Bool → Bool → Bool

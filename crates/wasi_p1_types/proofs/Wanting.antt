@@ -2,7 +2,7 @@
 use Rattle.std.proofs.Common.{refl, ◌≡◌, ◌+◌, ◌*◌, ◌/◌, ◌^◌, ◌%◌, take, [], ◌∷◌, nat_lt, nat_le, length, ℕ, true, false, cond, Bool, List, Option, Some, None, Ok, Err}
 use Rattle.std.specs.Prelude.{◌==◌, not, ◌&&◌, ◌||◌, ℤ, pos, negsuc, ◌+ℤ◌, IfErr, IfSome, IsTrue}
 use Rattle.wasi_fs.specs.Calls.{may_do, may_link, may_add_name, may_rename}
-use Rattle.wasi_fs.specs.OpenHow.{OpenHow, may_open, open_rows}
+use Rattle.wasi_fs.specs.OpenHow.{OpenHow, may_open, open_rules}
 use Rattle.wasi_fs.specs.Perms.{permits, is_read_only, is_append_only, differ}
 use Rattle.wasi_fs.specs.declared.perms.Act.{Act}
 use Rattle.wasi_fs.specs.declared.perms.Act.TheVariants.{Make, Alter}
@@ -29,7 +29,7 @@ use Rattle.wasi_p1_types.specs.Numbering.{live_count}
 use Rattle.wasi_p1_types.specs.NewTimes.{time_of, new_time, times_asked}
 use Rattle.wasi_p1_types.specs.RawFlags.{or_inval, open_how, follow_asked}
 use Rattle.wasi_p1_types.specs.CallResult.{CallResult}
-use Rattle.wasi_p1_types.specs.Parts.{live_in, directory_in, start_in, source_in, sink_in, open_node_in, range, may_write, room_for, permit, guest_fault, from_guest}
+use Rattle.wasi_p1_types.specs.SpecParts.{live_in, directory_in, start_in, read_target_in, write_target_in, open_node_in, range, may_write, room_for, permit, guest_fault, from_guest}
 use Rattle.wasi_p1_types.specs.declared.error.P1Error.{P1Error}
 use Rattle.wasi_guest.specs.Enums.{clockid_of, is_signal}
 use Rattle.wasi_guest.specs.declared.enums.Clockid.{Clockid}
@@ -106,7 +106,7 @@ permit_never (Some code) known = known
 -- what isn't permitted is refused so
 pub open_known : (how : OpenHow) (perms : FsPerms) → IfSome (may_open how perms) IsKnown
 unfolding may_open
-open_known how perms = first_known (open_rows how perms) refl
+open_known how perms = first_known (open_rules how perms) refl
 
 pub act_known : (perms : FsPerms) (act : Act) → IfSome (may_do perms act) IsKnown
 unfolding may_do
@@ -176,12 +176,12 @@ times_never wall atim mtim fst_flags =
     after (new_time wall atim (has set flag.atim) (has set flag.atim_now)) _ (time_never wall atim _ _) (λ atime.
     after (new_time wall mtim (has set flag.mtim) (has set flag.mtim_now)) _ (time_never wall mtim _ _) (λ mtime. tt)))
 
-pub source_never : (p : Option GuestSlot) → Never (source_in p)
+pub source_never : (p : Option GuestSlot) → Never (read_target_in p)
 source_never (Some (file f)) = tt
 source_never (Some (stream streams.Input)) = tt
 source_never p = refl
 
-pub sink_never : (p : Option GuestSlot) → Never (sink_in p)
+pub sink_never : (p : Option GuestSlot) → Never (write_target_in p)
 sink_never (Some (file f)) = tt
 sink_never (Some (stream streams.Output)) = tt
 sink_never (Some (stream streams.Error)) = tt

@@ -6,7 +6,7 @@ use Rattle.wasi_fs.specs.OpenHow.{OpenHow, mode_of}
 use Rattle.wasi_fs.specs.declared.descriptor.Descriptor.{Descriptor}
 use Rattle.wasi_fs.specs.declared.descriptor.Dir.{Dir}
 use Rattle.wasi_host.specs.HostCall.{Pread, Pwrite}
-use Rattle.wasi_host.specs.HostLaws.{World, Handles, Keeps}
+use Rattle.wasi_host.specs.HostLaws.{HostModel, Handles, Keeps}
 use Rattle.wasi_host.specs.declared.errors.HostError.{HostError}
 use Rattle.wasi_host.specs.declared.errors.ErrorCode.{ErrorCode}
 use Rattle.wasi_host.specs.declared.open_handle.OpenHandle.{OpenHandle}
@@ -14,7 +14,7 @@ use Rattle.wasi_p1_types.specs.Asked.{Does}
 use Rattle.wasi_p1_types.specs.Errnos.{errno_of, error_of}
 use Rattle.wasi_p1_types.specs.Request.{Request, Reply, MayReply, Path, Direct}
 use Rattle.wasi_p1_types.specs.CallResult.{CallResult, give}
-use Rattle.wasi_p1_types.specs.Parts.{OpenNode, opened_among, Source, input, from, Sink, output, into}
+use Rattle.wasi_p1_types.specs.SpecParts.{OpenNode, opened_among, ReadTarget, input, from, WriteTarget, output, into}
 use Rattle.wasi_guest.specs.Range.{with_bytes}
 use Rattle.wasi_guest.specs.declared.errno.Errno.TheVariants as errnos
 use Rattle.wasi_p1_types.specs.Guest.{OpenFile, GuestSlot, guest_slots, file_by}
@@ -24,10 +24,10 @@ use Rattle.wasi_p1_types.specs.declared.slots.Slot.{Slot}
 use Rattle.wasi_p1_types.specs.declared.slots.Slot.TheVariants as slots
 use Rattle.wasi_p1_types.specs.declared.slots.FileModes.{FileModes}
 use Rattle.wasi_p1_types.specs.declared.slots.FileSlot.{FileSlot}
-use Rattle.wasi_p1_types.specs.declared.usage.Source.{Source as ReadPlace}
-use Rattle.wasi_p1_types.specs.declared.usage.Source.TheVariants as sources
-use Rattle.wasi_p1_types.specs.declared.usage.Sink.{Sink as WritePlace}
-use Rattle.wasi_p1_types.specs.declared.usage.Sink.TheVariants as sinks
+use Rattle.wasi_p1_types.specs.declared.usage.ReadTarget.{ReadTarget as ReadPlace}
+use Rattle.wasi_p1_types.specs.declared.usage.ReadTarget.TheVariants as sources
+use Rattle.wasi_p1_types.specs.declared.usage.WriteTarget.{WriteTarget as WritePlace}
+use Rattle.wasi_p1_types.specs.declared.usage.WriteTarget.TheVariants as sinks
 
 -- a file's descriptor, with what its handle stands for in place of the handle
 abbrev pub open_file_of : (ℕ → OpenHandle) → FileSlot → OpenFile
@@ -52,7 +52,7 @@ Knows None part result old new = Unit {0}
 Knows (Some known) part result old new = (result ≡ part known) × (new ≡ old)
 
 -- a request made by a call that leaves what the live handles stand for
-pub record Makes {A : Type 0} (rose : Type 0) (old : Handles) (w v : World) (r : Request) (next : Reply r → CallResult A)
+pub record Makes {A : Type 0} (rose : Type 0) (old : Handles) (w v : HostModel) (r : Request) (next : Reply r → CallResult A)
     (result : CallResult A) : Type 0 where
   pub keeps : (h : ℕ) → contains old h ≡ true → v.held h ≡ w.held h
   pub does : Does rose w v r next result
@@ -63,7 +63,7 @@ with_after (Ok x) after = Ok (x, after)
 with_after (Err e) after = Err e
 
 -- an open into the descriptors
-abbrev pub OpensInto : Type 0 → World → World → OpenNode → List ℕ → OpenHow → FileModes → List GuestSlot → List GuestSlot
+abbrev pub OpensInto : Type 0 → HostModel → HostModel → OpenNode → List ℕ → OpenHow → FileModes → List GuestSlot → List GuestSlot
     → CallResult ℕ → Type 0
 OpensInto rose w v d text how modes before after result = Does rose w v (Path (opens d.node text how))
     (opened_among before d.perms (mode_of how) modes) (with_after result after)
@@ -73,31 +73,31 @@ abbrev pub filled_at : List ℕ → ℕ → List ℕ → CallResult (ℕ × List
 filled_at memory buf bytes = give (length bytes, with_bytes memory buf bytes)
 
 -- a read into memory
-abbrev pub ReadsInto : Type 0 → Handles → World → World → OpenHandle → ℕ → ℕ → ℕ → List ℕ → List ℕ → CallResult ℕ → Type 0
+abbrev pub ReadsInto : Type 0 → Handles → HostModel → HostModel → OpenHandle → ℕ → ℕ → ℕ → List ℕ → List ℕ → CallResult ℕ → Type 0
 ReadsInto rose old w v f position buf size before after result =
     Makes rose old w v (Direct (Pread f position size)) (filled_at before buf) (with_after result after)
 
 -- a write of a piece
-abbrev pub WritesPiece : Type 0 → Handles → World → World → OpenHandle → ℕ → List ℕ → CallResult ℕ → Type 0
+abbrev pub WritesPiece : Type 0 → Handles → HostModel → HostModel → OpenHandle → ℕ → List ℕ → CallResult ℕ → Type 0
 WritesPiece rose old w v f position piece result = Makes rose old w v (Direct (Pwrite f position piece)) give result
 
 -- what is read or written by a number, with what a file's handle stands for in place of the handle
-abbrev pub source_of : (ℕ → OpenHandle) → ReadPlace → Source
-source_of held sources.Input = input
-source_of held (sources.File file) = from (open_file_of held file)
+abbrev pub read_target_of : (ℕ → OpenHandle) → ReadPlace → ReadTarget
+read_target_of held sources.Input = input
+read_target_of held (sources.File file) = from (open_file_of held file)
 
-abbrev pub sink_of : (ℕ → OpenHandle) → WritePlace → Sink
-sink_of held (sinks.Output o) = output o
-sink_of held (sinks.File file) = into (open_file_of held file)
+abbrev pub write_target_of : (ℕ → OpenHandle) → WritePlace → WriteTarget
+write_target_of held (sinks.Output o) = output o
+write_target_of held (sinks.File file) = into (open_file_of held file)
 
 -- what holds of a file that is read or written
-abbrev pub OfSource : (FileSlot → Type 0) → ReadPlace → Type 0
-OfSource P sources.Input = Unit {0}
-OfSource P (sources.File file) = P file
+abbrev pub OfReadTarget : (FileSlot → Type 0) → ReadPlace → Type 0
+OfReadTarget P sources.Input = Unit {0}
+OfReadTarget P (sources.File file) = P file
 
-abbrev pub OfSink : (FileSlot → Type 0) → WritePlace → Type 0
-OfSink P (sinks.Output o) = Unit {0}
-OfSink P (sinks.File file) = P file
+abbrev pub OfWriteTarget : (FileSlot → Type 0) → WritePlace → Type 0
+OfWriteTarget P (sinks.Output o) = Unit {0}
+OfWriteTarget P (sinks.File file) = P file
 
 -- some reply of a request leads to this, whatever the tree
 abbrev pub Follows : {A : Type 0} → (r : Request) → (Reply r → CallResult A) → CallResult A → Type 0
@@ -134,13 +134,13 @@ IsLive live (slots.Stream s) = Unit {0}
 IsLive live slots.Closed = Unit {0}
 
 -- no node was come to, and what is live stands for the same
-pub record Rests (live live' : Handles) (w v : World) : Type 0 where
+pub record Rests (live live' : Handles) (w v : HostModel) : Type 0 where
   pub tree : v.tree ≡ w.tree
   pub touched : v.touched ≡ w.touched
   pub keeps : Keeps live live' w v
 
 -- no node was come to, and the descriptors stand for the same
-pub record Stays (w v : World) (table : List Slot) : Type 0 where
+pub record Stays (w v : HostModel) (table : List Slot) : Type 0 where
   pub tree : v.tree ≡ w.tree
   pub touched : v.touched ≡ w.touched
   pub slots : guest_slots v.held table ≡ guest_slots w.held table

@@ -46,8 +46,8 @@ abbrev pub with_tree : (Value × Guest) × Tree → Value × State
 with_tree p = (p.0.0, record { tree = p.1; guest = p.0.1 })
 
 -- a row over a tree
-abbrev pub row_on : Tree → CallResult (Program (Value × Guest)) → CallResult (Value × State)
-row_on t m = m >>= run_on t >>= (λ p. give (with_tree p))
+abbrev pub spec_on : Tree → CallResult (Program (Value × Guest)) → CallResult (Value × State)
+spec_on t m = m >>= run_on t >>= (λ p. give (with_tree p))
 
 -- no refusal stands before the request
 abbrev pub Asks : {A : Type 0} → CallResult (Program A) → Type 0

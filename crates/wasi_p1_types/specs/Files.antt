@@ -17,7 +17,7 @@ use Rattle.wasi_host.specs.Steps.{◌>>=◌}
 use Rattle.wasi_host.specs.declared.advice.Advice.{Advice as HostAdvice}
 use Rattle.wasi_host.specs.declared.advice.Advice.TheVariants as host_advices
 use Rattle.wasi_p1_types.specs.Guest.{Guest, GuestSlot, OpenFile, closed, stream, directory, file}
-use Rattle.wasi_p1_types.specs.Parts.{at_position, range, room_for, with_file}
+use Rattle.wasi_p1_types.specs.SpecParts.{at_position, range, room_for, with_file}
 use Rattle.wasi_p1_types.specs.CallResult.{CallResult, give}
 use Rattle.wasi_p1_types.specs.declared.slots.FileModes.{FileModes}
 use Rattle.wasi_p1_types.specs.declared.slots.Stream.{Stream as StandardStream}

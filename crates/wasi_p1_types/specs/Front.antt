@@ -9,7 +9,7 @@ use Rattle.wasi_guest.specs.declared.call.Call.{Call}
 use Rattle.wasi_guest.specs.declared.errno.Errno.TheVariants as errnos
 use Rattle.wasi_guest.specs.declared.iovec.Iovec.{Iovec}
 use Rattle.wasi_p1_types.specs.Guest.{Guest}
-use Rattle.wasi_p1_types.specs.Parts.{OpenNode, from_guest, permit, range, start_in}
+use Rattle.wasi_p1_types.specs.SpecParts.{OpenNode, from_guest, permit, range, start_in}
 use Rattle.wasi_p1_types.specs.Request.{Request, Reply}
 use Rattle.wasi_p1_types.specs.CallResult.{CallResult, give, Program, done, asking, made_of_reply}
 use Rattle.wasi_p1_types.specs.declared.error.P1Error.TheVariants.{Errno}

@@ -4,7 +4,7 @@ use Rattle.std.specs.List.{flat_map}
 use Rattle.wasi_host.specs.Tree.{Tree}
 use Rattle.wasi_fs.specs.declared.open_mode.OpenMode.{OpenMode}
 use Rattle.wasi_fs.specs.declared.perms.FsPerms.{FsPerms}
-use Rattle.wasi_host.specs.HostLaws.{World}
+use Rattle.wasi_host.specs.HostLaws.{HostModel}
 use Rattle.wasi_host.specs.declared.open_handle.AccessMode.{AccessMode}
 use Rattle.wasi_host.specs.declared.open_handle.OpenHandle.{OpenHandle}
 use Rattle.wasi_p1_types.specs.GuestEnvModel.{GuestEnvModel}
@@ -87,11 +87,11 @@ guest_by held context memory = record {
 }
 
 -- the same, by what the host tells
-abbrev pub guest_of : {H : Type 0} → (H → World) → View H → List ℕ → Guest
-guest_of world context memory = guest_by (world context.host).held context memory
+abbrev pub guest_of : {H : Type 0} → (H → HostModel) → View H → List ℕ → Guest
+guest_of model context memory = guest_by (model context.host).held context memory
 
-abbrev pub state_of : {H : Type 0} → (H → World) → View H → List ℕ → State
-state_of world context memory = record { tree = (world context.host).tree; guest = guest_of world context memory }
+abbrev pub state_of : {H : Type 0} → (H → HostModel) → View H → List ℕ → State
+state_of model context memory = record { tree = (model context.host).tree; guest = guest_of model context memory }
 
 abbrev pub is_closed : GuestSlot → Bool
 is_closed closed = true

@@ -18,7 +18,7 @@ use Rattle.wasi_guest.specs.declared.event.Event.{Event}
 use Rattle.wasi_guest.specs.declared.subscription.SubscriptionKind.{SubscriptionKind}
 use Rattle.wasi_guest.specs.declared.subscription.SubscriptionKind.TheVariants as kinds
 use Rattle.wasi_p1_types.specs.Guest.{GuestSlot}
-use Rattle.wasi_p1_types.specs.Parts.{from_guest, Source, input, from, source_in, Sink, output, into, sink_in}
+use Rattle.wasi_p1_types.specs.SpecParts.{from_guest, ReadTarget, input, from, read_target_in, WriteTarget, output, into, write_target_in}
 use Rattle.wasi_p1_types.specs.RawFlags.{or_inval}
 use Rattle.wasi_p1_types.specs.CallResult.{CallResult, give}
 use Rattle.wasi_p1_types.specs.Services.{nanoseconds_of}
@@ -72,12 +72,12 @@ clock_end stock id timeout flags = do
 -- A subscription is judged to an `Awaited`, in which the number of a file that is read is that of its node: in the code
 -- it is the number of its handle
 
-abbrev pub waiting_to_read : Source → Awaited
+abbrev pub waiting_to_read : ReadTarget → Awaited
 waiting_to_read input = awaiteds.Input
 waiting_to_read (from f) = awaiteds.FileToRead f.node f.position
 
 -- nothing is written under read-only permissions
-abbrev pub waiting_to_write : Sink → CallResult Awaited
+abbrev pub waiting_to_write : WriteTarget → CallResult Awaited
 waiting_to_write (output o) = Ok awaiteds.Output
 waiting_to_write (into f) = if is_read_only f.perms then Err (Errno errnos.Perm) else Ok awaiteds.FileToWrite
 
@@ -85,8 +85,8 @@ waiting_to_write (into f) = if is_read_only f.perms then Err (Errno errnos.Perm)
 abbrev pub waiting_for : GuestEnvModel → List GuestSlot → SubscriptionKind → CallResult Awaited
 waiting_for stock slots (kinds.Clock id timeout precision flags) =
     clock_end stock id timeout flags >>= (λ end. give (awaiteds.Clock end))
-waiting_for stock slots (kinds.FdRead fd) = source_in (slice_get slots fd) >>= (λ source. give (waiting_to_read source))
-waiting_for stock slots (kinds.FdWrite fd) = sink_in (slice_get slots fd) >>= waiting_to_write
+waiting_for stock slots (kinds.FdRead fd) = read_target_in (slice_get slots fd) >>= (λ source. give (waiting_to_read source))
+waiting_for stock slots (kinds.FdWrite fd) = write_target_in (slice_get slots fd) >>= waiting_to_write
 
 -- one subscription at an address: as it can't be read, then by its rule
 unfoldable pub waited_at : GuestEnvModel → List GuestSlot → List ℕ → ℕ → CallResult Waited

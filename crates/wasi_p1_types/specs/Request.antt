@@ -17,7 +17,7 @@ use Rattle.wasi_p1_types.specs.Quotas.{end_of_piece, growth_within, is_above}
 use Rattle.wasi_p1_types.specs.declared.quotas.Allowance.{Allowance}
 use Rattle.wasi_p1_types.specs.declared.quotas.FileEnd.{FileEnd}
 use Rattle.wasi_p1_types.specs.declared.quotas.FileEnd.TheVariants as ends
-use Rattle.wasi_resolve.specs.PathRequest.{PathRequest, OpenPath, AtPlace, PathReply, path_reply, path_after, path_starts, path_ends}
+use Rattle.wasi_resolve.specs.PathRequest.{PathRequest, OpenPath, AtEntry, PathReply, path_reply, path_after, path_starts, path_ends}
 
 pub data Request : Type 0 where
   -- through a path: its walk, and what is done where it ends
@@ -47,7 +47,7 @@ Reply (Grow limit w) = Option (ℕ × Reply w)
 -- link's text has some bytes, no more than it may, and no root
 abbrev pub MayFind : (p : PathRequest) → PathReply p → Type 0
 MayFind (OpenPath s text o follow directory) found = IsTrue directory → IsTrue found.is_dir
-MayFind (AtPlace s text ReadLink) link =
+MayFind (AtEntry s text ReadLink) link =
     (0 < length link) × (length link ≤ longest_link) × (has_root link ≡ false)
 MayFind p found = Unit {0}
 

@@ -13,7 +13,7 @@ use Rattle.wasi_guest.specs.declared.answer.TrapKind.TheVariants.{Pointer, ExitS
 use Rattle.wasi_guest.specs.declared.answer.Value.{Value}
 use Rattle.wasi_guest.specs.declared.answer.Value.TheVariants.{Pair}
 use Rattle.wasi_guest.specs.declared.errno.Errno.TheVariants as errnos
-use Rattle.wasi_p1_types.specs.Parts.{range}
+use Rattle.wasi_p1_types.specs.SpecParts.{range}
 use Rattle.wasi_p1_types.specs.RawFlags.{or_inval}
 use Rattle.wasi_p1_types.specs.CallResult.{CallResult, give}
 use Rattle.wasi_p1_types.specs.GuestEnvModel.{GuestEnvModel}

@@ -26,29 +26,29 @@ pub record View (H : Type 0) : Type 0 where
   pub fuel : ℕ
 
 -- a directory that the guest is given may be read, and written unless it is read-only
-abbrev pub given_mode : FsPerms → OpenMode
-given_mode perms = mode_for true (not (is_read_only perms))
+abbrev pub preopen_mode : FsPerms → OpenMode
+preopen_mode perms = mode_for true (not (is_read_only perms))
 
-abbrev pub given_directory : P1Preopen → Dir
-given_directory preopen =
-    record { dir = preopen.handle; perms = preopen.perms; open_mode = given_mode preopen.perms }
+abbrev pub preopen_directory : P1Preopen → Dir
+preopen_directory preopen =
+    record { dir = preopen.handle; perms = preopen.perms; open_mode = preopen_mode preopen.perms }
 
 -- the name by which the guest knows it
-abbrev pub given_name : P1Preopen → List ℕ
-given_name preopen = string_bytes preopen.name
+abbrev pub name_of_preopen : P1Preopen → List ℕ
+name_of_preopen preopen = string_bytes preopen.name
 
 -- its descriptor, by its place among those that are given
-abbrev pub given_slot : ℕ → P1Preopen → Slot
-given_slot place preopen = Directory (record { dir = given_directory preopen; preopen = Some place })
+abbrev pub preopen_slot : ℕ → P1Preopen → Slot
+preopen_slot place preopen = Directory (record { dir = preopen_directory preopen; preopen = Some place })
 
 -- their descriptors, where the first has this place
-abbrev pub given_slots : ℕ → List P1Preopen → List Slot
-given_slots place [] = []
-given_slots place (preopen ∷ preopens) = given_slot place preopen ∷ given_slots (suc place) preopens
+abbrev pub preopen_slots : ℕ → List P1Preopen → List Slot
+preopen_slots place [] = []
+preopen_slots place (preopen ∷ preopens) = preopen_slot place preopen ∷ preopen_slots (suc place) preopens
 
 -- the three streams, then the directories that the guest is given
 abbrev pub first_slots : List P1Preopen → List Slot
-first_slots preopens = Stream Input ∷ Stream Output ∷ Stream Error ∷ given_slots 0 preopens
+first_slots preopens = Stream Input ∷ Stream Output ∷ Stream Error ∷ preopen_slots 0 preopens
 
 abbrev pub is_closed_slot : Slot → Bool
 is_closed_slot Closed = true

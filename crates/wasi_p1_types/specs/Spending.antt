@@ -11,7 +11,7 @@ use Rattle.wasi_host.specs.Tree.{Tree}
 use Rattle.wasi_host.specs.declared.errors.ErrorCode.{ErrorCode}
 use Rattle.wasi_p1_types.specs.Front.{CallFront}
 use Rattle.wasi_p1_types.specs.Guest.{Guest}
-use Rattle.wasi_p1_types.specs.Parts.{permit}
+use Rattle.wasi_p1_types.specs.SpecParts.{permit}
 use Rattle.wasi_p1_types.specs.CallParts.{is_failure}
 use Rattle.wasi_p1_types.specs.Quotas.{counted_growth, counted_making, counted_makings, growth_within, is_above, is_used_up}
 use Rattle.wasi_p1_types.specs.Request.{Request, Reply, Grow, growth_in}
@@ -37,7 +37,7 @@ with_making p = (p.0, record p.1 { holdings = counted_making p.1.holdings })
 
 -- a row that makes something: right before its request it is refused where no making is left, and an answer is counted
 abbrev pub made_by : Bool → Guest → CallResult (Program (Value × Guest)) → CallResult (Program (Value × Guest))
-made_by false g row = row
+made_by false g call_spec = call_spec
 made_by true g (Ok (asking r next)) =
     may_make g.holdings >>= (λ _. Ok (asking r (λ reply. next reply >>= (λ p. give (with_making p)))))
 made_by true g (Ok (done p)) = Ok (done p)

@@ -1,7 +1,7 @@
 //! Why a call isn't answered Ok, why no context is made, and why a run wasn't finished.
 ghost use Rattle.std.specs.Prelude.{◌≡◌};
 ghost use Rattle.wasi_p1_types.specs.Errnos.{errno_of, error_of};
-ghost use Rattle.wasi_p1_types.specs.Parts.{guest_fault};
+ghost use Rattle.wasi_p1_types.specs.SpecParts.{guest_fault};
 ghost use Rattle.wasi_p1_types.specs.ViewErrors.{errno_named, table_error_of, view_error_of};
 ghost use Rattle.wasi_p1_types.specs.declared.error.CtxError.TheVariants as causes;
 ghost use Rattle.wasi_p1_types.specs.declared.error.P1Error.TheVariants as errors;

@@ -6,7 +6,7 @@ ghost use Rattle.std.specs.String.{string_bytes};
 ghost use Rattle.std.specs.Result.{result_map_both};
 ghost use Rattle.wasi_p1_types.specs.Services.{next_input, input_into, written, sizes_of, texts_at, with_text, with_texts, with_unit, total_of, clock_res, clock_time, moment_of, nanoseconds_of, random_bytes, random_taken};
 ghost use Rattle.wasi_p1_types.specs.Polling.{clock_end, clocks_at, end_after, end_of, wall_later, with_clocks};
-ghost use Rattle.wasi_p1_types.specs.Slots.{given_name};
+ghost use Rattle.wasi_p1_types.specs.Slots.{name_of_preopen};
 ghost use Rattle.wasi_p1_types.specs.GuestEnvModel.{first_stock, env_text};
 ghost use Rattle.std.specs.Int.{to_le_bytes, w32};
 ghost use Rattle.wasi_guest.specs.Range.{IsInMemory, in_memory, with_bytes};
@@ -54,14 +54,14 @@ pub struct GuestEnv {
 impl Model for GuestEnv {
     ghost use Rattle.std.specs.Prelude.{◌≤◌, ◌-◌, map, length, drop};
     ghost use Rattle.std.specs.String.{string_bytes};
-    ghost use Rattle.wasi_p1_types.specs.Slots.{given_name};
+    ghost use Rattle.wasi_p1_types.specs.Slots.{name_of_preopen};
     ghost use Rattle.wasi_p1_types.specs.GuestEnvModel.{GuestEnvModel};
     ghost use Rattle.wasi_p1_types.specs.Quotas.{IsWithinQuota};
 
     ghost Value = { GuestEnvModel };
 
     ghost view = { λ h. record {
-      preopens = map given_name h.preopens.items;
+      preopens = map name_of_preopen h.preopens.items;
       args = map string_bytes h.args.items;
       environ = map string_bytes h.environ.items;
       stdin = drop h.read h.stdin.items;
@@ -126,7 +126,7 @@ impl GuestEnv {
         preopens: Vec<P1Preopen>,
     ) -> Result<GuestEnv, AllocError>
         ensures first { IfOk result (λ holdings. holdings
-            ≡ first_stock (handed services) (map given_name preopens.items)) }
+            ≡ first_stock (handed services) (map name_of_preopen preopens.items)) }
     {
         let environ = env_texts(alloc, &services.env)?;
         Ok(GuestEnv {
@@ -158,7 +158,7 @@ impl GuestEnv {
     /// How many arguments there are, and how many bytes they have with a zero behind each: Overflow where 32 bits don't
     /// hold one of the two.
     pub fn args_sizes(&self) -> Result<Value, P1Error>
-        ensures row { result ≡ sizes_of self.now.args }
+        ensures specified { result ≡ sizes_of self.now.args }
         ensures refusal { IfErr result (λ e. is_failure e ≡ false) }
     {
         sizes(&self.args)
@@ -166,7 +166,7 @@ impl GuestEnv {
 
     /// The same of the variables of the environment.
     pub fn environ_sizes(&self) -> Result<Value, P1Error>
-        ensures row { result ≡ sizes_of self.now.environ }
+        ensures specified { result ≡ sizes_of self.now.environ }
         ensures refusal { IfErr result (λ e. is_failure e ≡ false) }
     {
         sizes(&self.environ)
@@ -207,7 +207,7 @@ impl GuestEnv {
     /// How far apart two moments of a clock are.
     #[tactic(auto, unfolding(crate::specs::Services::clock_res))]
     pub fn clock_res(&self, id: u32) -> Result<u64, P1Error>
-        ensures row { result ≡ clock_res self.now id }
+        ensures specified { result ≡ clock_res self.now id }
         ensures refusal { IfErr result (λ e. is_failure e ≡ false) }
     {
         let clock = Clockid::from_number(id).ok_or(INVALID)?;
@@ -217,7 +217,7 @@ impl GuestEnv {
     /// What a clock stands at.
     #[tactic(auto, unfolding(crate::specs::Services::clock_time))]
     pub fn clock_time(&self, id: u32) -> Result<u64, P1Error>
-        ensures row { result ≡ clock_time self.now id }
+        ensures specified { result ≡ clock_time self.now id }
         ensures refusal { IfErr result (λ e. is_failure e ≡ false) }
     {
         let clock = Clockid::from_number(id).ok_or(INVALID)?;
@@ -258,7 +258,7 @@ impl GuestEnv {
     /// Dquot where no making is left.
     #[tactic(auto, unfolding(crate::specs::Spending::may_make))]
     pub fn check_making(&self) -> Result<(), P1Error>
-        ensures row { result ≡ may_make self.now }
+        ensures specified { result ≡ may_make self.now }
         ensures refusal { IfErr result (λ e. is_failure e ≡ false) }
     {
         match self.quota.nodes {
@@ -321,7 +321,7 @@ impl GuestEnv {
     /// the wall clock is asked for and 64 bits of nanoseconds don't hold what it stands at.
     #[tactic(auto, unfolding(crate::specs::Polling::clock_end))]
     pub fn clock_end(&self, id: u32, timeout: u64, flags: u16) -> Result<u64, P1Error>
-        ensures row { result ≡ clock_end self.now id timeout flags }
+        ensures specified { result ≡ clock_end self.now id timeout flags }
         ensures refusal { IfErr result (λ e. is_failure e ≡ false) }
     {
         let clock = Clockid::from_number(id).ok_or(INVALID)?;
@@ -332,7 +332,7 @@ impl GuestEnv {
 
     /// The same of a clock, and whether its timeout is a moment of it.
     fn end_of(&self, clock: Clockid, timeout: u64, absolute: bool) -> Result<u64, P1Error>
-        ensures row { result ≡ end_of self.now timeout absolute clock }
+        ensures specified { result ≡ end_of self.now timeout absolute clock }
         ensures refusal { IfErr result (λ e. is_failure e ≡ false) }
     {
         match (clock, absolute) {
@@ -359,7 +359,7 @@ impl GuestEnv {
     /// do, and else both go on alike. Refusal: Overflow where an i64 doesn't hold the wall clock's seconds then.
     #[tactic(auto, unfolding(crate::specs::Polling::clocks_at))]
     pub fn clocks_at(&self, moment: u64) -> Result<Clocks, P1Error>
-        ensures row { result ≡ clocks_at self.now moment }
+        ensures specified { result ≡ clocks_at self.now moment }
         ensures refusal { IfErr result (λ e. is_failure e ≡ false) }
     {
         if moment <= self.monotonic {
@@ -387,7 +387,7 @@ impl GuestEnv {
 /// A moment of the wall clock so many nanoseconds later, with whole seconds carried out of them: Overflow where an i64
 /// doesn't hold the seconds.
 fn wall_later(wall: WallDatetime, by: u64) -> Result<WallDatetime, P1Error>
-    ensures row { result ≡ wall_later wall by }
+    ensures specified { result ≡ wall_later wall by }
     ensures refusal { IfErr result (λ e. is_failure e ≡ false) }
 {
     let nanoseconds = wall.nanoseconds as u128 + by as u128;
@@ -403,7 +403,7 @@ fn wall_later(wall: WallDatetime, by: u64) -> Result<WallDatetime, P1Error>
 
 /// What is read next, of what is left of the standard input, into a buffer: Intr of an empty one where some is left.
 fn next_input(left: &[u8], size: u32) -> Result<&[u8], P1Error>
-    ensures row { result_map_both (λ bytes. bytes.now) (λ e. e) result ≡ next_input left.now size }
+    ensures specified { result_map_both (λ bytes. bytes.now) (λ e. e) result ≡ next_input left.now size }
     ensures fits { IfOk result (λ bytes. length bytes.now ≤ size) }
     ensures refusal { IfErr result (λ e. is_failure e ≡ false) }
 {
@@ -434,7 +434,7 @@ impl GuestEnv {
         ensures same { OnErr result (memory.new ≡ memory.old) }
         ensures kept { OnErr result (self.new ≡ self.old) }
         ensures refusal { IfErr result (λ e. is_failure e ≡ false) }
-        ensures row { with_after result (memory.new, self.new) ≡ input_into memory.old self.old buffer }
+        ensures specified { with_after result (memory.new, self.new) ≡ input_into memory.old self.old buffer }
     {
         let bytes = next_input(&self.stdin[self.read..], buffer.buf_len)?;
         let n = bytes.len();
@@ -463,7 +463,7 @@ impl GuestEnv {
         ensures size { length memory.new ≡ length memory.old }
         ensures same { OnErr result (memory.new ≡ memory.old) }
         ensures refusal { IfErr result (λ e. is_failure e ≡ false) }
-        ensures row { with_after result memory.new ≡ with_unit (texts_at memory.old self.now.args at buf) }
+        ensures specified { with_after result memory.new ≡ with_unit (texts_at memory.old self.now.args at buf) }
     {
         texts_into(memory, &self.args, at, buf)
     }
@@ -473,7 +473,7 @@ impl GuestEnv {
         ensures size { length memory.new ≡ length memory.old }
         ensures same { OnErr result (memory.new ≡ memory.old) }
         ensures refusal { IfErr result (λ e. is_failure e ≡ false) }
-        ensures row { with_after result memory.new ≡ with_unit (texts_at memory.old self.now.environ at buf) }
+        ensures specified { with_after result memory.new ≡ with_unit (texts_at memory.old self.now.environ at buf) }
     {
         texts_into(memory, &self.environ, at, buf)
     }
@@ -536,7 +536,7 @@ fn texts_into(memory: &mut [u8], texts: &[String], at: u32, buf: u32) -> Result<
     ensures size { length memory.new ≡ length memory.old }
     ensures same { OnErr result (memory.new ≡ memory.old) }
     ensures refusal { IfErr result (λ e. is_failure e ≡ false) }
-    ensures row { with_after result memory.new
+    ensures specified { with_after result memory.new
         ≡ with_unit (texts_at memory.old (map string_bytes texts.now) at buf) }
 {
     if texts.is_empty() {
@@ -602,7 +602,7 @@ fn put_address(memory: &mut [u8], place: usize, address: usize)
 
 /// In nanoseconds: Overflow of what 64 bits don't hold.
 pub fn nanoseconds_of(moment: WallDatetime) -> Result<u64, P1Error>
-    ensures row { result ≡ nanoseconds_of moment }
+    ensures specified { result ≡ nanoseconds_of moment }
     ensures refusal { IfErr result (λ e. is_failure e ≡ false) }
     ensures never_wants { IfErr result WantsNoMemory }
 {
@@ -615,7 +615,7 @@ pub fn nanoseconds_of(moment: WallDatetime) -> Result<u64, P1Error>
 
 /// The wall clock's moment, or the monotonic clock's: Badf of that of a processor.
 fn moment_of(wall: WallDatetime, monotonic: u64, clock: Clockid) -> Result<u64, P1Error>
-    ensures row { result ≡ moment_of wall monotonic clock }
+    ensures specified { result ≡ moment_of wall monotonic clock }
     ensures refusal { IfErr result (λ e. is_failure e ≡ false) }
 {
     match clock {
@@ -640,7 +640,7 @@ fn total_of(texts: &[String]) -> u64
 /// How many texts there are, and how many bytes they have: Overflow where 32 bits don't hold one of the two.
 #[tactic(auto, unfolding(crate::specs::Services::sizes_of))]
 fn sizes(texts: &[String]) -> Result<Value, P1Error>
-    ensures row { result ≡ sizes_of (map string_bytes texts.now) }
+    ensures specified { result ≡ sizes_of (map string_bytes texts.now) }
     ensures refusal { IfErr result (λ e. is_failure e ≡ false) }
 {
     let count = texts.len() as u64;

@@ -4,7 +4,7 @@ ghost use Rattle.std.specs.Result.{result_map_both};
 ghost use Rattle.wasi_guest.specs.Range.{IsInMemory};
 ghost use Rattle.wasi_p1_types.specs.CallParts.{with_after, WantsNoMemory, is_failure};
 ghost use Rattle.wasi_p1_types.specs.Front.{charge, charged_text, charged_buffer};
-ghost use Rattle.wasi_p1_types.specs.Parts.{range, may_write, text_to};
+ghost use Rattle.wasi_p1_types.specs.SpecParts.{range, may_write, text_to};
 
 use crate::error::P1Error;
 use wasi_fs::FsPerms;
@@ -12,7 +12,7 @@ use wasi_guest::{Errno, Iovec, TrapKind, first_buffer, slice_at, text_in, write_
 
 /// The `n` bytes of a guest's memory from the address `ptr` on, lent: trap Pointer where the memory doesn't hold them all.
 pub fn bytes_at(memory: &[u8], ptr: u32, n: u32) -> Result<&[u8], P1Error>
-    ensures row { result_map_both (λ bytes. bytes.now) (λ e. e) result ≡ range memory.now ptr n }
+    ensures specified { result_map_both (λ bytes. bytes.now) (λ e. e) result ≡ range memory.now ptr n }
     ensures inside { OnOk result (IsInMemory memory.now ptr n) }
 {
     let Some(bytes) = slice_at(memory, ptr, n) else {
@@ -24,7 +24,7 @@ pub fn bytes_at(memory: &[u8], ptr: u32, n: u32) -> Result<&[u8], P1Error>
 /// Takes so much of a call's fuel, as the crate's `hostcall_fuel`: Nomem where there is less, and then none is taken.
 #[tactic(auto, unfolding(crate::specs::Front::charge))]
 pub fn charge(fuel: &mut u64, n: u64) -> Result<(), P1Error>
-    ensures row { (result, fuel.new) ≡ charge n fuel.old }
+    ensures specified { (result, fuel.new) ≡ charge n fuel.old }
     ensures refusal { IfErr result (λ e. is_failure e ≡ false) }
 {
     if *fuel < n {
@@ -38,7 +38,7 @@ pub fn charge(fuel: &mut u64, n: u64) -> Result<(), P1Error>
 /// Nomem where there is less fuel; trap Pointer where the memory doesn't hold it; Ilseq where its bytes aren't UTF-8.
 #[tactic(auto, using(crate::proofs::Wanting::fault_never), unfolding(crate::specs::Front::charged_text))]
 pub fn text_at<'m>(memory: &'m [u8], fuel: &mut u64, ptr: u32, n: u32) -> Result<&'m str, P1Error>
-    ensures row { (result_map_both (λ text. text.now) (λ e. e) result, fuel.new)
+    ensures specified { (result_map_both (λ text. text.now) (λ e. e) result, fuel.new)
         ≡ charged_text memory.now ptr n fuel.old }
     ensures refusal { IfErr result (λ e. is_failure e ≡ false) }
 {
@@ -52,7 +52,7 @@ pub fn text_at<'m>(memory: &'m [u8], fuel: &mut u64, ptr: u32, n: u32) -> Result
 /// less than the buffer has.
 #[tactic(auto, using(crate::proofs::Wanting::fault_never), unfolding(crate::specs::Front::charged_buffer))]
 pub fn buffer_at(memory: &[u8], fuel: &mut u64, iovs: u32, iovs_len: u32) -> Result<Iovec, P1Error>
-    ensures row { (result, fuel.new) ≡ charged_buffer memory.now iovs iovs_len fuel.old }
+    ensures specified { (result, fuel.new) ≡ charged_buffer memory.now iovs iovs_len fuel.old }
     ensures refusal { IfErr result (λ e. is_failure e ≡ false) }
 {
     charge(fuel, 8 * iovs_len as u64)?;
@@ -62,9 +62,9 @@ pub fn buffer_at(memory: &[u8], fuel: &mut u64, iovs: u32, iovs_len: u32) -> Res
 }
 
 /// Whether a file may be written that was opened under these permissions: Badf under read-only ones.
-#[tactic(auto, unfolding(crate::specs::Parts::may_write))]
+#[tactic(auto, unfolding(crate::specs::SpecParts::may_write))]
 pub fn check_write(perms: FsPerms) -> Result<(), P1Error>
-    ensures row { result ≡ may_write perms }
+    ensures specified { result ≡ may_write perms }
     ensures refusal { IfErr result (λ e. is_failure e ≡ false) }
 {
     if perms.write_not_permitted() {
@@ -80,7 +80,7 @@ pub fn write_front(memory: &mut [u8], buf: u32, buf_len: u32, bytes: &[u8]) -> R
     ensures same { OnErr result (memory.new ≡ memory.old) }
     ensures refusal { IfErr result (λ e. is_failure e ≡ false) }
     ensures never_wants { IfErr result WantsNoMemory }
-    ensures row { with_after result memory.new ≡ text_to memory.old buf (take buf_len bytes.now) }
+    ensures specified { with_after result memory.new ≡ text_to memory.old buf (take buf_len bytes.now) }
 {
     let n = (buf_len as usize).min(bytes.len());
     let part = &bytes[..n];

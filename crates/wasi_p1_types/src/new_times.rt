@@ -25,7 +25,7 @@ impl NewTimes {
     /// wall clock's, Overflow where the wall clock is asked for and an i64 doesn't hold its seconds.
     #[tactic(auto, unfolding(crate::specs::NewTimes::times_asked))]
     pub fn of(wall: WallDatetime, atim: u64, mtim: u64, fst_flags: u32) -> Result<NewTimes, P1Error>
-        ensures row { result ≡ times_asked wall atim mtim fst_flags }
+        ensures specified { result ≡ times_asked wall atim mtim fst_flags }
         ensures since { IfOk result AreSinceEpoch }
         ensures refusal { IfErr result (λ e. is_failure e ≡ false) }
     {
@@ -61,7 +61,7 @@ fn time_after(nanoseconds: u64) -> SystemTime
 /// A moment of the wall clock as a node's time, with whole seconds carried out of the nanoseconds. Refusal: Overflow of
 /// seconds that an i64 doesn't hold.
 fn time_of(wall: WallDatetime) -> Result<SystemTime, P1Error>
-    ensures row { result ≡ time_of wall }
+    ensures specified { result ≡ time_of wall }
     ensures since { IfOk result (λ time. pos 0 ≤ℤ time.seconds) }
     ensures refusal { IfErr result (λ e. is_failure e ≡ false) }
 {
@@ -77,7 +77,7 @@ fn new_time(
     set: bool,
     now: bool,
 ) -> Result<Option<SystemTime>, P1Error>
-    ensures row { result ≡ new_time wall given set now }
+    ensures specified { result ≡ new_time wall given set now }
     ensures since { IfOk result IsSinceEpoch }
     ensures refusal { IfErr result (λ e. is_failure e ≡ false) }
 {

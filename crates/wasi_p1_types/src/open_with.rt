@@ -10,7 +10,7 @@ ghost use Rattle.wasi_guest.specs.Flags as flag;
 ghost use Rattle.wasi_guest.specs.Flags.{has};
 ghost use Rattle.wasi_p1_types.specs.RawFlags.{modes_in, modes_under, open_how, follow_asked};
 ghost use Rattle.wasi_p1_types.specs.CallParts.{is_failure};
-ghost use Rattle.wasi_p1_types.specs.Parts.{permit};
+ghost use Rattle.wasi_p1_types.specs.SpecParts.{permit};
 ghost use Rattle.wasi_p2_types.specs.FlagBits.{path_set, open_set, descriptor_set};
 ghost use Rattle.wasi_p2_types.specs.FlagNames.{path_flags_named};
 ghost use Rattle.wasi_p2_types.specs.FlagNames.{how_named};
@@ -41,7 +41,7 @@ impl OpenWith {
         inheriting: u64,
         fdflags: u32,
     ) -> Result<OpenWith, P1Error>
-        ensures row { result_map_both (λ with. how_named with.path_flags with.open_flags with.flags) (λ e. e) result
+        ensures specified { result_map_both (λ with. how_named with.path_flags with.open_flags with.flags) (λ e. e) result
             ≡ open_how dirflags oflags base inheriting fdflags }
         ensures modes { IfOk result (λ with. with.modes ≡ modes_in fdflags) }
         ensures refusal { IfErr result (λ e. is_failure e ≡ false) }
@@ -84,7 +84,7 @@ impl OpenWith {
     /// under read-only permissions, and of trunc under append-only ones.
     #[tactic(auto, unfolding(wasi_fs::specs::OpenHow::may_open))]
     pub fn check(self, perms: FsPerms) -> Result<(), P1Error>
-        ensures row { result ≡ permit (may_open (how_named self.path_flags self.open_flags self.flags) perms) }
+        ensures specified { result ≡ permit (may_open (how_named self.path_flags self.open_flags self.flags) perms) }
         ensures refusal { IfErr result (λ e. is_failure e ≡ false) }
     {
         if self.is_synchronized() {
@@ -135,7 +135,7 @@ impl OpenWith {
 /// How a path is looked up by a raw number. Refusal: Inval where it has a bit that preview1 doesn't know.
 #[tactic(auto, unfolding(crate::specs::RawFlags::follow_asked))]
 pub fn path_flags_of(flags: u32) -> Result<PathFlags, P1Error>
-    ensures row { result_map_both (λ flags. is_followed (path_flags_named flags)) (λ e. e) result ≡ follow_asked flags }
+    ensures specified { result_map_both (λ flags. is_followed (path_flags_named flags)) (λ e. e) result ≡ follow_asked flags }
     ensures refusal { IfErr result (λ e. is_failure e ≡ false) }
 {
     let lookups = LookupFlags::from_bits(flags).ok_or(INVALID)?;

@@ -43,7 +43,7 @@ impl Allowance {
     /// The growth that is reckoned of a file of this size. Refusal: Dquot where the bound would be passed with it.
     #[tactic(auto, unfolding(crate::specs::Spending::growth_from))]
     pub fn growth_from(self, end: FileEnd, size: u64) -> Result<u64, P1Error>
-        ensures row { result ≡ growth_from self end size }
+        ensures specified { result ≡ growth_from self end size }
         ensures fits { IfOk result (λ growth. self.used + growth ≤ self.most) }
         ensures refusal { IfErr result (λ e. is_failure e ≡ false) }
         ensures never_wants { IfErr result WantsNoMemory }

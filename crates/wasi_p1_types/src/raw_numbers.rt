@@ -31,7 +31,7 @@ pub fn exit_with(status: u32) -> P1Error
 /// A signal: Inval of an unknown one.
 #[tactic(auto, unfolding(crate::specs::Services::known_signal))]
 pub fn known_signal(signal: u32) -> Result<u32, P1Error>
-    ensures row { result ≡ known_signal signal }
+    ensures specified { result ≡ known_signal signal }
     ensures refusal { IfErr result (λ e. is_failure e ≡ false) }
 {
     if is_signal(signal) {
@@ -42,7 +42,7 @@ pub fn known_signal(signal: u32) -> Result<u32, P1Error>
 
 /// From where a position is counted: Inval of an unknown number.
 pub fn whence_of(whence: u32) -> Result<Whence, P1Error>
-    ensures row { result ≡ or_inval (whence_of whence) }
+    ensures specified { result ≡ or_inval (whence_of whence) }
     ensures refusal { IfErr result (λ e. is_failure e ≡ false) }
 {
     Whence::from_number(whence).ok_or(INVALID)
@@ -50,7 +50,7 @@ pub fn whence_of(whence: u32) -> Result<Whence, P1Error>
 
 /// How a file will be used: Inval of an unknown number.
 pub fn advice_of(advice: u32) -> Result<Advice, P1Error>
-    ensures row { result ≡ or_inval (advice_of advice) }
+    ensures specified { result ≡ or_inval (advice_of advice) }
     ensures refusal { IfErr result (λ e. is_failure e ≡ false) }
 {
     Advice::from_number(advice).ok_or(INVALID)
@@ -58,7 +58,7 @@ pub fn advice_of(advice: u32) -> Result<Advice, P1Error>
 
 /// The flags of a descriptor: Inval where a bit is none of preview1's.
 pub fn fdflags_of(flags: u32) -> Result<FdFlags, P1Error>
-    ensures row { result_map_both fdflag_bits (λ e. e) result ≡ or_inval (flags_in known_fdflags flags) }
+    ensures specified { result_map_both fdflag_bits (λ e. e) result ≡ or_inval (flags_in known_fdflags flags) }
     ensures refusal { IfErr result (λ e. is_failure e ≡ false) }
 {
     FdFlags::from_bits(flags).ok_or(INVALID)
@@ -66,7 +66,7 @@ pub fn fdflags_of(flags: u32) -> Result<FdFlags, P1Error>
 
 /// Rights: Inval where a bit is none of preview1's.
 pub fn rights_of(rights: u64) -> Result<Rights, P1Error>
-    ensures row { result_map_both right_bits (λ e. e) result ≡ or_inval (flags_in known_rights rights) }
+    ensures specified { result_map_both right_bits (λ e. e) result ≡ or_inval (flags_in known_rights rights) }
     ensures refusal { IfErr result (λ e. is_failure e ≡ false) }
 {
     Rights::from_bits(rights).ok_or(INVALID)

@@ -1,6 +1,6 @@
 //! What a descriptor number stands for.
 ghost use Rattle.std.specs.Prelude.{◌≡◌};
-ghost use Rattle.wasi_p1_types.specs.Slots.{given_directory};
+ghost use Rattle.wasi_p1_types.specs.Slots.{preopen_directory};
 
 use bitflags::Flags;
 use wasi_fs::{Dir, File, FsPerms, OpenMode};
@@ -58,7 +58,7 @@ pub struct P1Preopen {
 impl P1Preopen {
     /// The directory, which may be read, and written unless it is read-only.
     pub fn directory(&self) -> Dir
-        ensures directory { result ≡ given_directory self.now }
+        ensures directory { result ≡ preopen_directory self.now }
     {
         let mut mode = OpenMode::READ;
         mode.set(OpenMode::WRITE, !self.perms.write_not_permitted());

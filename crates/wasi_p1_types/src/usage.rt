@@ -5,14 +5,14 @@ use crate::slots::FileSlot;
 
 /// What is read by a number.
 #[derive(Drop)]
-pub enum Source {
+pub enum ReadTarget {
     Input,
     File(FileSlot),
 }
 
 /// What is written by a number.
 #[derive(Drop)]
-pub enum Sink {
+pub enum WriteTarget {
     Output(Output),
     File(FileSlot),
 }

@@ -3,4 +3,4 @@
 mod entries;
 mod error_codes;
 mod nodes;
-mod places;
+mod path_ops;

@@ -34,7 +34,7 @@ closed_one {H} {host} {ctx} {h} {table} {now} {n} {e} owned taken closes = recor
   max = taken.max;
   spare = taken.spare;
   owned = rw (closes.live, taken.entries) (owned_taken n e owned taken.was);
-  rests = closes.told;
+  rests = closes.modelled;
 }
 
 -- an entry in the place of one with the same handle, or with none as it

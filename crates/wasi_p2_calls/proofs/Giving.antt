@@ -7,9 +7,9 @@ use Rattle.std.specs.FinMap.{get, gets, insert, len, len-insert, remove, same_ma
 use Rattle.std.specs.FinSet.{contains, members, nat_cmp-IsAntisymmetric, insert as with_handle}
 use Rattle.wasi_host.proofs.Chain.{remove-insert}
 use Rattle.wasi_host.proofs.Tracing.{got_in_more, in_still, traced_given, traced_got_err, traced_kept, traced_none, traced_same, traced_then}
-use Rattle.wasi_host.specs.Lineage.{HasProvenance, Only, OrGot, OrGotIn, Nothing}
+use Rattle.wasi_host.specs.Provenance.{HasProvenance, Only, OrGot, OrGotIn, Nothing}
 use Rattle.wasi_host.specs.HostCall.{Dup}
-use Rattle.wasi_host.specs.HostLaws.{AfterErr, FaultCount, Handles, LiveGot, LoggedGot, MeansErr, Told, World}
+use Rattle.wasi_host.specs.HostLaws.{AfterErr, FaultCount, Handles, LiveGot, LoggedGot, MeansErr, RefinesCall, HostModel}
 use Rattle.wasi_host.specs.declared.errors.ErrorCode.{ErrorCode as LowerCode}
 use Rattle.wasi_host.specs.declared.errors.ErrorCode.TheVariants as lower
 use Rattle.wasi_host.specs.declared.errors.HostError.{HostError}
@@ -56,24 +56,24 @@ one_longer table n e none =
 
 -- ---- what is live afterwards, and who has it
 
-grown : (told : Bool) (w : World) (live : Handles) (table : Entries) (ps : List Preopen) (ms : List PreopenEntry)
-    (live' : Handles) (table' : Entries) → GivesEach told w live table ps ms live' table'
+grown : (modelled : Bool) (w : HostModel) (live : Handles) (table : Entries) (ps : List Preopen) (ms : List PreopenEntry)
+    (live' : Handles) (table' : Entries) → GivesEach modelled w live table ps ms live' table'
     → (q : ℕ) → contains live q ≡ true → contains live' q ≡ true
-grown told w live table [] [] live' table' gives q is = ap (λ (s : Handles). contains s q) gives.0 ∙ is
-grown told w live table [] (m ∷ ms) live' table' gives q is = absurd gives
-grown told w live table (p ∷ ps) [] live' table' gives q is = absurd gives
-grown told w live table (p ∷ ps) (m ∷ ms) live' table' gives q is =
-    grown told w (with_handle live gives.0) (insert table m.fd.number (preopen_entry p gives.0)) ps ms live' table' gives.5 q
+grown modelled w live table [] [] live' table' gives q is = ap (λ (s : Handles). contains s q) gives.0 ∙ is
+grown modelled w live table [] (m ∷ ms) live' table' gives q is = absurd gives
+grown modelled w live table (p ∷ ps) [] live' table' gives q is = absurd gives
+grown modelled w live table (p ∷ ps) (m ∷ ms) live' table' gives q is =
+    grown modelled w (with_handle live gives.0) (insert table m.fd.number (preopen_entry p gives.0)) ps ms live' table' gives.5 q
     (live_on live gives.0 q is)
 
-pub owned_each : (told : Bool) (w : World) (live : Handles) (table : Entries) (ps : List Preopen) (ms : List PreopenEntry)
-    (live' : Handles) (table' : Entries) (all : List Preopen) → GivesEach told w live table ps ms live' table'
+pub owned_each : (modelled : Bool) (w : HostModel) (live : Handles) (table : Entries) (ps : List Preopen) (ms : List PreopenEntry)
+    (live' : Handles) (table' : Entries) (all : List Preopen) → GivesEach modelled w live table ps ms live' table'
     → AreOwned live all table → AreOwned live' all table'
-owned_each told w live table [] [] live' table' all gives owned = rw (gives.0, gives.1) owned
-owned_each told w live table [] (m ∷ ms) live' table' all gives owned = absurd gives
-owned_each told w live table (p ∷ ps) [] live' table' all gives owned = absurd gives
-owned_each told w live table (p ∷ ps) (m ∷ ms) live' table' all gives owned =
-    owned_each told w (with_handle live gives.0) (insert table m.fd.number (preopen_entry p gives.0)) ps ms live' table' all
+owned_each modelled w live table [] [] live' table' all gives owned = rw (gives.0, gives.1) owned
+owned_each modelled w live table [] (m ∷ ms) live' table' all gives owned = absurd gives
+owned_each modelled w live table (p ∷ ps) [] live' table' all gives owned = absurd gives
+owned_each modelled w live table (p ∷ ps) (m ∷ ms) live' table' all gives owned =
+    owned_each modelled w (with_handle live gives.0) (insert table m.fd.number (preopen_entry p gives.0)) ps ms live' table' all
     gives.5 (owned_added m.fd.number (preopen_entry p gives.0) owned (gives.1, refl))
 
 -- ---- look-ups
@@ -109,7 +109,7 @@ looks_both : {a b c : List Lookup} {h : ℕ} (p : Preopen) (ps : List Preopen) (
 looks_both {a} {b} {c} {h} p ps live mid last first second came lives = record {
   piece = both.piece;
   adds = both.adds;
-  lineage = both.lineage;
+  provenance = both.provenance;
   ends = λ q new. elim (split_got (IsOfThese (p ∷ ps)) both.piece q (both.ends q new)) [
     | inl given ↦ absurd (never_both new.0 (lives q given))
     | inr got ↦ got
@@ -133,7 +133,7 @@ looks_both {a} {b} {c} {h} p ps live mid last first second came lives = record {
 
 -- ---- the tree stays
 
-leaves_on : {a b c : Handles} {u v w : World} → LeavesTree a b u v → LeavesTree b c v w
+leaves_on : {a b c : Handles} {u v w : HostModel} → LeavesTree a b u v → LeavesTree b c v w
     → ((q : ℕ) → contains a q ≡ true → contains c q ≡ true → contains b q ≡ true) → LeavesTree a c u w
 leaves_on first second between = record {
   tree = second.tree ∙ first.tree;
@@ -156,17 +156,17 @@ failed_on {B = B} {e = e} one rest same = record {
 
 -- ---- why not all
 
-more_than_one : (told : Bool) (table : Table) (p : Preopen) (ps : List Preopen) {e : FsError} → WhyNotAll told table 1 e
-    → WhyNotAll told table (length (p ∷ ps)) e
-more_than_one told table p ps why = elim why [
+more_than_one : (modelled : Bool) (table : Table) (p : Preopen) (ps : List Preopen) {e : FsError} → WhyNotAll modelled table 1 e
+    → WhyNotAll modelled table (length (p ∷ ps)) e
+more_than_one modelled table p ps why = elim why [
   | inl full ↦ inl (full.0, (let above = full.1 in omega arith))
   | inr other ↦ inr other
 ]
 
-one_more_than : (told : Bool) (table mid : Table) (p : Preopen) (ps : List Preopen) {e : FsError}
-    → mid.max ≡ table.max → len mid.entries ≡ len table.entries + 1 → WhyNotAll told mid (length ps) e
-    → WhyNotAll told table (length (p ∷ ps)) e
-one_more_than told table mid p ps max longer why = elim why [
+one_more_than : (modelled : Bool) (table mid : Table) (p : Preopen) (ps : List Preopen) {e : FsError}
+    → mid.max ≡ table.max → len mid.entries ≡ len table.entries + 1 → WhyNotAll modelled mid (length ps) e
+    → WhyNotAll modelled table (length (p ∷ ps)) e
+one_more_than modelled table mid p ps max longer why = elim why [
   | inl full ↦ inl (full.0, (let above = full.1 in omega arith))
   | inr other ↦ inr other
 ]
@@ -182,7 +182,7 @@ none_left {H} {host} {old} {table} [] is = record {
   max = refl;
   looks = traced_none (IsOfThese []) Nothing (IsNewlyLive (host.live old) (host.live old)) _ _ refl
       (λ q new. absurd (never_both new.0 new.1));
-  leaves = λ told. record { tree = refl; touched = refl; keeps = λ q was now. refl };
+  leaves = λ modelled. record { tree = refl; touched = refl; keeps = λ q was now. refl };
 }
 none_left (p ∷ ps) is = absurd (omega arith)
 
@@ -200,7 +200,7 @@ pub first_not : {H : Type 0} {host : Ghosts H} {old new : H} {table now : Table}
     → GivesNone host old new table now p e → GivesThese host old new table now (p ∷ ps) (Err e)
 first_not {H} {host} {old} {new} {table} {now} {p} {e} ps cause none = record {
   cause = cause_as cause;
-  gives = (none.live, none.entries, none.spare, more_than_one host.told table p ps none.why);
+  gives = (none.live, none.entries, none.spare, more_than_one host.modelled table p ps none.why);
   max = none.max;
   looks = traced_given (IsOfThese (p ∷ ps)) (λ q is. inl is) (traced_kept Nothing
       (IsNewlyLive (host.live old) (host.live new))
@@ -233,15 +233,15 @@ rest_not {H} {host} {old} {mid} {new} {last} {table} {there} {now} {end} {p} {m}
         back.entries ∙ ap (λ (t : Entries). remove t m.fd.number) put
             ∙ taken_again table.entries m.fd.number (preopen_entry p one.handle) one.fresh,
         (let a = rest.gives.2 in let b = one.spare in let c = back.spare in omega arith),
-        one_more_than host.told table there p ps one.max longer rest.gives.3,
+        one_more_than host.modelled table there p ps one.max longer rest.gives.3,
       );
       max = back.max ∙ rest.max ∙ one.max;
       looks = traced_same _ back.closes.logged (subst (λ (s : Handles). HasProvenance (IsOfThese (p ∷ ps)) Nothing
           (IsNewlyLive (host.live old) s) (host.lookups old) (host.lookups new)) (sym live_is)
           (traced_kept Nothing (IsNewlyLive (host.live old) (host.live old)) (λ q new. absurd (never_both new.0 new.1))
           (looks_both p ps (host.live old) (host.live mid) (host.live new) one.looks rest.looks one.live lives)));
-      leaves = λ told. leaves_on (leaves_on (one.leaves told) (rest.leaves told) (λ q was is.
-          ap (λ (s : Handles). contains s q) one.live ∙ live_on (host.live old) one.handle q was)) (back.closes.told told)
+      leaves = λ modelled. leaves_on (leaves_on (one.leaves modelled) (rest.leaves modelled) (λ q was is.
+          ap (λ (s : Handles). contains s q) one.live ∙ live_on (host.live old) one.handle q was)) (back.closes.modelled modelled)
           (λ q was is. ap (λ (s : Handles). contains s q) (rest.gives.0 ∙ one.live) ∙ live_on (host.live old) one.handle q was);
     }
 
@@ -253,13 +253,13 @@ pub rest_given : {H : Type 0} {host : Ghosts H} {old mid new : H} {table there n
     → GivesThese host mid new there now ps (Ok ms) → GivesThese host old new table now (p ∷ ps) (Ok (m ∷ ms))
 rest_given {H} {host} {old} {mid} {new} {table} {there} {now} {p} {m} {ms} ps lives cause one rest =
     let on : (q : ℕ) → contains (host.live mid) q ≡ true → contains (host.live new) q ≡ true =
-    grown host.told (host.world new) (host.live mid) there.entries ps ms (host.live new) now.entries rest.gives.0 in
+    grown host.modelled (host.model new) (host.live mid) there.entries ps ms (host.live new) now.entries rest.gives.0 in
     let p_mid : contains (host.live mid) p.dir.dir ≡ true =
     ap (λ (s : Handles). contains s p.dir.dir) one.live ∙ live_on (host.live old) one.handle p.dir.dir (lives p.dir.dir (inl refl)) in
     let h_mid : contains (host.live mid) one.handle ≡ true =
     ap (λ (s : Handles). contains s one.handle) one.live ∙ live_here (host.live old) one.handle in
-    let others : GivesEach host.told (host.world new) (with_handle (host.live old) one.handle) there.entries ps ms
-    (host.live new) now.entries = subst (λ (s : Handles). GivesEach host.told (host.world new) s there.entries ps ms
+    let others : GivesEach host.modelled (host.model new) (with_handle (host.live old) one.handle) there.entries ps ms
+    (host.live new) now.entries = subst (λ (s : Handles). GivesEach host.modelled (host.model new) s there.entries ps ms
     (host.live new) now.entries) one.live rest.gives.0 in
     record {
       cause = record {
@@ -273,17 +273,17 @@ rest_given {H} {host} {old} {mid} {new} {table} {there} {now} {p} {m} {ms} ps li
           one.was_new,
           one.fresh,
           one.name,
-          (λ told. (rest.leaves told).keeps one.handle h_mid (on one.handle h_mid) ∙ one.same told
-              ∙ sym ((one.leaves told).keeps p.dir.dir (lives p.dir.dir (inl refl)) p_mid)
-              ∙ sym ((rest.leaves told).keeps p.dir.dir p_mid (on p.dir.dir p_mid))),
-          subst (λ (t : Entries). GivesEach host.told (host.world new) (with_handle (host.live old) one.handle) t ps ms
+          (λ modelled. (rest.leaves modelled).keeps one.handle h_mid (on one.handle h_mid) ∙ one.same modelled
+              ∙ sym ((one.leaves modelled).keeps p.dir.dir (lives p.dir.dir (inl refl)) p_mid)
+              ∙ sym ((rest.leaves modelled).keeps p.dir.dir p_mid (on p.dir.dir p_mid))),
+          subst (λ (t : Entries). GivesEach host.modelled (host.model new) (with_handle (host.live old) one.handle) t ps ms
               (host.live new) now.entries) one.entries others,
         ),
         (let a = rest.gives.1 in let b = one.spare in omega arith),
       );
       max = rest.max ∙ one.max;
       looks = looks_both p ps (host.live old) (host.live mid) (host.live new) one.looks rest.looks one.live lives;
-      leaves = λ told. leaves_on (one.leaves told) (rest.leaves told)
+      leaves = λ modelled. leaves_on (one.leaves modelled) (rest.leaves modelled)
           (λ q was is. ap (λ (s : Handles). contains s q) one.live ∙ live_on (host.live old) one.handle q was);
     }
 
@@ -294,14 +294,14 @@ dup_code : (held : OpenHandle) (code : LowerCode) → MeansErr {B = OpenHandle} 
 dup_code held lower.Io means = refl
 dup_code held code means = absurd (cc)
 
-dup_why : (told : Bool) (table : Table) (held : OpenHandle) (e : HostError) → (IsTrue told → MeansErr {B = OpenHandle} (Ok held) e)
-    → WhyNotAll told table 1 (fs_error e)
-dup_why told table held hosts.Memory means = inr (inl refl)
-dup_why told table held (hosts.Code code) means =
+dup_why : (modelled : Bool) (table : Table) (held : OpenHandle) (e : HostError) → (IsTrue modelled → MeansErr {B = OpenHandle} (Ok held) e)
+    → WhyNotAll modelled table 1 (fs_error e)
+dup_why modelled table held hosts.Memory means = inr (inl refl)
+dup_why modelled table held (hosts.Code code) means =
     inr (inr (code, refl, λ is. dup_code held code (means is)))
 
 -- and leaves all as it was
-dup_left : (w v : World) (held : OpenHandle) (e : HostError) → AfterErr w (Dup held) e v
+dup_left : (w v : HostModel) (held : OpenHandle) (e : HostError) → AfterErr w (Dup held) e v
     → (v.tree ≡ w.tree) × (v.touched ≡ w.touched)
 dup_left w v held hosts.Memory after = elim after [
   | inl stayed ↦ (stayed.tree, stayed.touched)
@@ -319,20 +319,20 @@ dup_left w v held (hosts.Code code) after = (after.tree, after.touched)
 pub dup_not : {H : Type 0} {host : Ghosts H} {old new : H} {table now : Table} {p : Preopen} (e : HostError)
     → KeepsTable table now → LiveGot (host.live old) (Err e) (host.live new)
     → LoggedGot (host.live old) (host.lookups old) kinds.Dup p.dir.dir (Err e) (host.lookups new)
-    → (IsTrue host.told → Told {A = ℕ} (host.live old) (host.live new) (host.world old) (host.world new)
-    (Dup ((host.world old).held p.dir.dir)) (host.world new).held (Err e))
+    → (IsTrue host.modelled → RefinesCall {A = ℕ} (host.live old) (host.live new) (host.model old) (host.model new)
+    (Dup ((host.model old).held p.dir.dir)) (host.model new).held (Err e))
     → GivesNone host old new table now p (fs_error e)
 dup_not {H} {host} {old} {new} {table} {now} {p} e keeps live logged is_told = record {
   live = live;
   entries = keeps.entries;
   max = keeps.max;
   spare = keeps.grows;
-  why = dup_why host.told table ((host.world old).held p.dir.dir) e (λ told. (is_told told).meaning);
+  why = dup_why host.modelled table ((host.model old).held p.dir.dir) e (λ modelled. (is_told modelled).meaning);
   looks = traced_got_err (host.live old) (host.lookups old) (host.lookups new) kinds.Dup p.dir.dir e logged;
   leaves =
-      λ told. let left : ((host.world new).tree ≡ (host.world old).tree) × ((host.world new).touched ≡ (host.world old).touched) =
-      dup_left (host.world old) (host.world new) ((host.world old).held p.dir.dir) e (is_told told).after in
-      record { tree = left.0; touched = left.1; keeps = (is_told told).keeps };
+      λ modelled. let left : ((host.model new).tree ≡ (host.model old).tree) × ((host.model new).touched ≡ (host.model old).touched) =
+      dup_left (host.model old) (host.model new) ((host.model old).held p.dir.dir) e (is_told modelled).after in
+      record { tree = left.0; touched = left.1; keeps = (is_told modelled).keeps };
 }
 
 -- ---- what goes on
@@ -403,8 +403,8 @@ gave_all {H} {host} {ctx} {h} {table} {now} result is owned gave =
       owned = by result given.gives;
     }
   where
-    by : (r : Result (List PreopenEntry) FsError) → EachOrNone host.told (host.world h) (host.live ctx.host) table
+    by : (r : Result (List PreopenEntry) FsError) → EachOrNone host.modelled (host.model h) (host.live ctx.host) table
         ctx.preopens.items r (host.live h) now → AreOwned (host.live h) ctx.preopens.items now.entries
-    by (Ok made) all = owned_each host.told (host.world h) (host.live ctx.host) table.entries ctx.preopens.items made
+    by (Ok made) all = owned_each host.modelled (host.model h) (host.live ctx.host) table.entries ctx.preopens.items made
         (host.live h) now.entries ctx.preopens.items all.0 owned
     by (Err e) none = rw (none.0, none.1) owned

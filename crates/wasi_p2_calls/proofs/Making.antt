@@ -4,7 +4,7 @@ use Rattle.std.specs.FinMap.{get, insert, len}
 use Rattle.std.specs.Result.{result_map_both}
 use Rattle.wasi_host.specs.Answer.{Listed}
 use Rattle.wasi_host.proofs.Tracing.{traced_given, traced_got, traced_got_err, traced_kept, traced_none}
-use Rattle.wasi_host.specs.Lineage.{HasProvenance, Only, Nothing}
+use Rattle.wasi_host.specs.Provenance.{HasProvenance, Only, Nothing}
 use Rattle.wasi_host.specs.HostLaws.{HasCause, Handles, LiveGot, LoggedGot}
 use Rattle.wasi_host.specs.declared.errors.HostError.{HostError}
 use Rattle.wasi_host.specs.declared.host.Host.{Ghosts}

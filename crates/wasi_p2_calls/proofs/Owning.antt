@@ -5,7 +5,7 @@ use Rattle.std.proofs.lemmas.Bool.Decides.{nat_tests}
 use Rattle.std.specs.FinMap.{get, gets, insert, remove}
 use Rattle.std.specs.FinSet.{contains, members, insert as with_handle}
 use Rattle.wasi_host.proofs.Tracing.{traced_given, traced_none}
-use Rattle.wasi_host.specs.Lineage.{HasProvenance, Only, OneOf, Nothing}
+use Rattle.wasi_host.specs.Provenance.{HasProvenance, Only, OneOf, Nothing}
 use Rattle.wasi_host.specs.HostLaws.{Handles}
 use Rattle.wasi_host.specs.declared.lookup.Lookup.{Lookup}
 use Rattle.wasi_fs.specs.Calls.{handle_of, LooksAnew}

@@ -34,7 +34,7 @@ cause_read (Err code) (Err e) cause shown = record {
 pub read_so : {H : Type 0} {host : Ghosts H} {ctx : WasiFilesystemCtx H} {h : H} {table : Table} {fd len offset : ℕ}
     {file : File} {reply : ReadReply} {result : Result ReadResult FsError}
     → file_at table.entries fd ≡ Ok file → AreOwned (host.live ctx.host) ctx.preopens.items table.entries
-    → HasRead host.told (seen_in host (files_of ctx table)) (seen_in host (files_of (record ctx { host = h }) table)) file.file
+    → HasRead host.modelled (seen_in host (files_of ctx table)) (seen_in host (files_of (record ctx { host = h }) table)) file.file
     offset len reply
     → read_shown result ≡ read_answer reply
     → ReadsFile host (files_of ctx table) (files_of (record ctx { host = h }) table) fd len offset result

@@ -3,8 +3,8 @@ use Rattle.std.specs.Prelude.{◌≡◌, ◌≤◌, ◌<◌, ◌+◌, ◌⊎◌,
 use Rattle.std.specs.FinMap.{get, insert, len, remove}
 use Rattle.std.specs.FinSet.{contains, insert as with_handle}
 use Rattle.std.specs.String.{string_bytes}
-use Rattle.wasi_host.specs.Lineage.{HasProvenance, Only, Nothing}
-use Rattle.wasi_host.specs.HostLaws.{Handles, World}
+use Rattle.wasi_host.specs.Provenance.{HasProvenance, Only, Nothing}
+use Rattle.wasi_host.specs.HostLaws.{Handles, HostModel}
 use Rattle.wasi_host.specs.declared.errors.ErrorCode.{ErrorCode}
 use Rattle.wasi_host.specs.declared.errors.ErrorCode.TheVariants.{Io}
 use Rattle.wasi_host.specs.declared.host.Host.{Ghosts}
@@ -40,42 +40,42 @@ IsNewlyLive live live' h = (contains live h ≡ false) × (contains live' h ≡ 
 -- Not all were given: there may not be so many entries; or memory was wanted; or the host refused a `dup` with the code
 -- that is named, which is `Io`, where it is told
 abbrev pub WhyNotAll : Bool → Table → ℕ → FsError → Type 0
-WhyNotAll told table more e = ((e ≡ Trap Full) × (table.max < len table.entries + more))
-    ⊎ ((e ≡ Memory) ⊎ ((code : ErrorCode) × (e ≡ Code (code_named code)) × (IsTrue told → code ≡ Io)))
+WhyNotAll modelled table more e = ((e ≡ Trap Full) × (table.max < len table.entries + more))
+    ⊎ ((e ≡ Memory) ⊎ ((code : ErrorCode) × (e ≡ Code (code_named code)) × (IsTrue modelled → code ≡ Io)))
 
 -- One entry for each preopen, in order, and nothing else is new: under a number that was free, with the preopen's name,
 -- permissions and mode, and a handle that wasn't live, which stands for what the preopen's handle stands for
-abbrev pub GivesEach : Bool → World → Handles → Entries → List Preopen → List PreopenEntry → Handles → Entries → Type 0
-GivesEach told w live table [] [] live' table' = (live' ≡ live) × (table' ≡ table)
-GivesEach told w live table [] (m ∷ made) live' table' = ⊥
-GivesEach told w live table (p ∷ preopens) [] live' table' = ⊥
-GivesEach told w live table (p ∷ preopens) (m ∷ made) live' table' = (h : ℕ)
+abbrev pub GivesEach : Bool → HostModel → Handles → Entries → List Preopen → List PreopenEntry → Handles → Entries → Type 0
+GivesEach modelled w live table [] [] live' table' = (live' ≡ live) × (table' ≡ table)
+GivesEach modelled w live table [] (m ∷ made) live' table' = ⊥
+GivesEach modelled w live table (p ∷ preopens) [] live' table' = ⊥
+GivesEach modelled w live table (p ∷ preopens) (m ∷ made) live' table' = (h : ℕ)
     × (contains live h ≡ false)
     × (get table m.fd.number ≡ None)
     × (string_bytes m.name ≡ string_bytes p.name)
-    × (IsTrue told → w.held h ≡ w.held p.dir.dir)
-    × GivesEach told w (with_handle live h) (insert table m.fd.number (preopen_entry p h)) preopens made live' table'
+    × (IsTrue modelled → w.held h ≡ w.held p.dir.dir)
+    × GivesEach modelled w (with_handle live h) (insert table m.fd.number (preopen_entry p h)) preopens made live' table'
 
 -- all of them are there; or why not, and then entries and handles are as before
-abbrev pub EachOrNone : Bool → World → Handles → Table → List Preopen → Result (List PreopenEntry) FsError → Handles
+abbrev pub EachOrNone : Bool → HostModel → Handles → Table → List Preopen → Result (List PreopenEntry) FsError → Handles
     → Table → Type 0
-EachOrNone told w live table preopens (Ok made) live' table' =
-    GivesEach told w live table.entries preopens made live' table'.entries
+EachOrNone modelled w live table preopens (Ok made) live' table' =
+    GivesEach modelled w live table.entries preopens made live' table'.entries
     × (table.spare ≤ table'.spare + length preopens)
-EachOrNone told w live table preopens (Err e) live' table' =
+EachOrNone modelled w live table preopens (Err e) live' table' =
     (live' ≡ live) × (table'.entries ≡ table.entries) × (table.spare ≤ table'.spare)
-    × WhyNotAll told table (length preopens) e
+    × WhyNotAll modelled table (length preopens) e
 
 -- What is done to the host and the table, of these preopens: look-ups begin from their handles, and got each handle
 -- that is newly live
 pub record GivesThese {H : Type 0} (host : Ghosts H) (old new : H) (table now : Table) (preopens : List Preopen)
     (result : Result (List PreopenEntry) FsError) : Type 0 where
   pub cause : FsCause (host.faults old) (host.faults new) result
-  pub gives : EachOrNone host.told (host.world new) (host.live old) table preopens result (host.live new) now
+  pub gives : EachOrNone host.modelled (host.model new) (host.live old) table preopens result (host.live new) now
   pub max : now.max ≡ table.max
   pub looks : HasProvenance (IsOfThese preopens) Nothing (IsNewlyLive (host.live old) (host.live new)) (host.lookups old)
       (host.lookups new)
-  pub leaves : IsTrue host.told → LeavesTree (host.live old) (host.live new) (host.world old) (host.world new)
+  pub leaves : IsTrue host.modelled → LeavesTree (host.live old) (host.live new) (host.model old) (host.model new)
 
 -- `get_directories`
 pub record GivesDirectories {H : Type 0} (host : Ghosts H) (old new : Files H)
@@ -103,8 +103,8 @@ pub record GivesOne {H : Type 0} (host : Ghosts H) (old new : H) (table now : Ta
   pub spare : table.spare ≤ now.spare + 1
   pub name : string_bytes m.name ≡ string_bytes p.name
   pub looks : HasProvenance (Only p.dir.dir) Nothing (Only handle) (host.lookups old) (host.lookups new)
-  pub same : IsTrue host.told → (host.world new).held handle ≡ (host.world old).held p.dir.dir
-  pub leaves : IsTrue host.told → LeavesTree (host.live old) (host.live new) (host.world old) (host.world new)
+  pub same : IsTrue host.modelled → (host.model new).held handle ≡ (host.model old).held p.dir.dir
+  pub leaves : IsTrue host.modelled → LeavesTree (host.live old) (host.live new) (host.model old) (host.model new)
 
 -- or it isn't
 pub record GivesNone {H : Type 0} (host : Ghosts H) (old new : H) (table now : Table) (p : Preopen) (e : FsError)
@@ -113,9 +113,9 @@ pub record GivesNone {H : Type 0} (host : Ghosts H) (old new : H) (table now : T
   pub entries : now.entries ≡ table.entries
   pub max : now.max ≡ table.max
   pub spare : table.spare ≤ now.spare
-  pub why : WhyNotAll host.told table 1 e
+  pub why : WhyNotAll host.modelled table 1 e
   pub looks : HasProvenance (Only p.dir.dir) Nothing Nothing (host.lookups old) (host.lookups new)
-  pub leaves : IsTrue host.told → LeavesTree (host.live old) (host.live new) (host.world old) (host.world new)
+  pub leaves : IsTrue host.modelled → LeavesTree (host.live old) (host.live new) (host.model old) (host.model new)
 
 abbrev pub OneOrNone : {H : Type 0} → Ghosts H → H → H → Table → Table → Preopen → Result PreopenEntry FsError → Type 0
 OneOrNone host old new table now p (Ok m) = GivesOne host old new table now p m

@@ -4,7 +4,7 @@ use Rattle.std.specs.FinMap.{get, insert, remove}
 use Rattle.std.specs.FinSet.{remove as without_handle}
 use Rattle.std.specs.String.{string_bytes}
 use Rattle.wasi_host.specs.Answer.{Listed}
-use Rattle.wasi_host.specs.HostLaws.{Handles, Keeps, World}
+use Rattle.wasi_host.specs.HostLaws.{Handles, Keeps, HostModel}
 use Rattle.wasi_host.specs.declared.host.Host.{Ghosts}
 use Rattle.wasi_streams.specs.Found.{readdir_found, first_of}
 use Rattle.wasi_streams.specs.Table.{Table}
@@ -38,7 +38,7 @@ live_without live (Some h) = without_handle live h
 live_without live None = live
 
 -- no node was come to, and what stays live stands for the same
-pub record LeavesTree (live live' : Handles) (w v : World) : Type 0 where
+pub record LeavesTree (live live' : Handles) (w v : HostModel) : Type 0 where
   pub tree : v.tree ≡ w.tree
   pub touched : v.touched ≡ w.touched
   pub keeps : Keeps live live' w v
@@ -53,8 +53,8 @@ pub record Closes {H : Type 0} (host : Ghosts H) (old new : Files H) (n : ℕ) :
   pub max : new.table.max ≡ old.table.max
   pub spare : new.table.spare ≡ old.table.spare + 1
   pub owned : FilesOwned host new
-  pub rests : IsTrue host.told → LeavesTree (host.live old.ctx.host) (host.live new.ctx.host) (host.world old.ctx.host)
-      (host.world new.ctx.host)
+  pub rests : IsTrue host.modelled → LeavesTree (host.live old.ctx.host) (host.live new.ctx.host) (host.model old.ctx.host)
+      (host.model new.ctx.host)
 
 -- `drop`
 abbrev pub DropsDescriptor : {H : Type 0} → Ghosts H → Files H → Files H → ℕ → Result (Unit {0}) FsError → Type 0

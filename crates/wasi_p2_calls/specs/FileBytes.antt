@@ -37,7 +37,7 @@ pub record ReadsFile {H : Type 0} (host : Ghosts H) (old new : Files H) (fd len 
   pub did : OrRefused (file_at old.table.entries fd) (new.ctx.host ≡ old.ctx.host) (λ file.
       ((result ≡ Err Memory) × (new.ctx.host ≡ old.ctx.host))
       ⊎ ((reply : ReadReply) × (read_shown result ≡ read_answer reply)
-      × HasRead host.told (seen_in host old) (seen_in host new) file.file offset len reply)) result
+      × HasRead host.modelled (seen_in host old) (seen_in host new) file.file offset len reply)) result
 
 -- the number that the host took; nothing of a piece that isn't empty is `Io`
 abbrev pub write_answer : List ℕ → Result ℕ HostError → Result ℕ FsError
@@ -51,4 +51,4 @@ pub record WritesFile {H : Type 0} (host : Ghosts H) (old new : Files H) (fd : �
   pub logged : host.lookups new.ctx.host ≡ host.lookups old.ctx.host
   pub did : OrRefused (writable_at Alter old.table.entries fd) (new.ctx.host ≡ old.ctx.host) (λ file.
       (reply : Result ℕ HostError) × (result ≡ write_answer piece reply)
-      × Puts host.told file.file (seen_in host old) (seen_in host new) (Position offset) piece reply) result
+      × Puts host.modelled file.file (seen_in host old) (seen_in host new) (Position offset) piece reply) result

@@ -3,7 +3,7 @@ pub mod Drops
 pub mod FileBytes
 pub mod Nodes
 pub mod Opens
-pub mod Places
+pub mod PathOps
 pub mod Resources
 pub mod Rooms
 pub mod Timed

@@ -46,7 +46,7 @@ Advises host old new fd offset len advice result = AboutFile host old new fd (λ
 abbrev pub SetsSize : {H : Type 0} → Ghosts H → Files H → Files H → ℕ → ℕ → Result (Unit {0}) FsError → Type 0
 SetsSize host old new fd size result = AboutFile host old new fd (λ file answer.
     Performs host old.ctx.host new.ctx.host (may_do file.perms Alter)
-    (asks_at (tree_in host old) (SetSize ((host.world old.ctx.host).held file.file) size)
+    (asks_at (tree_in host old) (SetSize ((host.model old.ctx.host).held file.file) size)
     (node_held host old file.file)) (λ unit. unit) answer) result
 
 -- `get_flags`
@@ -58,8 +58,8 @@ TellsFlags host old new fd result = AboutIt host old new fd descriptor_flags_tol
 -- `get_type`
 abbrev pub TellsType : {H : Type 0} → Ghosts H → Files H → Files H → ℕ → Result DescriptorType FsError → Type 0
 TellsType host old new fd result = AboutIt host old new fd type_named (λ d answer.
-    IfErr answer NotMemory × AnswersKnown d answer old.ctx.host new.ctx.host × (IsTrue host.told
-    → IsTyped (host.live old.ctx.host) (host.world old.ctx.host) (host.world new.ctx.host) d answer)) result
+    IfErr answer NotMemory × AnswersKnown d answer old.ctx.host new.ctx.host × (IsTrue host.modelled
+    → IsTyped (host.live old.ctx.host) (host.model old.ctx.host) (host.model new.ctx.host) d answer)) result
 
 -- `stat`
 abbrev pub TellsStat : {H : Type 0} → Ghosts H → Files H → Files H → ℕ → Result DescriptorStat FsError → Type 0
@@ -79,7 +79,7 @@ SyncsIt host old new fd result = CallsOn host old new (LooksFrom old.table.entri
     (λ unit. unit) (λ d answer. NeedsNone d answer
     × LooksAnew d (host.lookups old.ctx.host) (host.lookups new.ctx.host)
     × Performs host old.ctx.host new.ctx.host None
-    (syncs (tree_in host old) (host.world old.ctx.host).held d) (λ unit. unit) answer) result
+    (syncs (tree_in host old) (host.model old.ctx.host).held d) (λ unit. unit) answer) result
 
 -- `set_times`
 abbrev pub SetsTimes : {H : Type 0} → Ghosts H → Files H → Files H → ℕ → NewTimestamp → NewTimestamp
@@ -93,6 +93,6 @@ SetsTimes host old new fd atim mtim result = CallsOn host old new LooksAtNone
 abbrev pub ComparesBoth : {H : Type 0} → Ghosts H → Files H → Files H → ℕ → ℕ → Result Bool FsError → Type 0
 ComparesBoth host old new a b result = CallsOn host old new LooksAtNone
     (both_found (descriptor_at old.table.entries a) (descriptor_at old.table.entries b)) (λ same. same) (λ found answer.
-    IfErr answer NotMemory × (IsTrue host.told
-    → Compares (host.live old.ctx.host) (host.world old.ctx.host) (host.world new.ctx.host)
+    IfErr answer NotMemory × (IsTrue host.modelled
+    → Compares (host.live old.ctx.host) (host.model old.ctx.host) (host.model new.ctx.host)
     (node_held host old (handle_of found.0)) (node_held host old (handle_of found.1)) answer)) result

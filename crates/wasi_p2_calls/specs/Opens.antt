@@ -4,8 +4,8 @@ use Rattle.std.specs.FinMap.{get, insert, len}
 use Rattle.std.specs.FinSet.{contains, insert as with_handle}
 use Rattle.wasi_paths.specs.Text.{is_entry_name}
 use Rattle.wasi_host.specs.HostCall.{Dup}
-use Rattle.wasi_host.specs.Lineage.{HasProvenance, Nothing}
-use Rattle.wasi_host.specs.HostLaws.{Handles, Told}
+use Rattle.wasi_host.specs.Provenance.{HasProvenance, Nothing}
+use Rattle.wasi_host.specs.HostLaws.{Handles, RefinesCall}
 use Rattle.wasi_host.specs.declared.errors.HostError.{HostError}
 use Rattle.wasi_host.specs.declared.host.Host.{Ghosts}
 use Rattle.wasi_resolve.specs.Meanings.{lists_at}
@@ -89,7 +89,7 @@ pub record OpensBelow {H : Type 0} (host : Ghosts H) (old new : Files H) (dir : 
   pub mode : IfOk answer (λ d. open_mode_of d ≡ mode_of how)
   pub kind : IfOk answer (IsAsked how.directory)
   pub performs : Performs host old.ctx.host new.ctx.host (may_open how perms)
-      (meant_by (tree_in host old) (opens (node_held host old dir) path how)) (opened_of (host.world new.ctx.host).held)
+      (meant_by (tree_in host old) (opens (node_held host old dir) path how)) (opened_of (host.model new.ctx.host).held)
       answer
 
 -- `open_at`
@@ -100,9 +100,9 @@ OpensAt host old new fd path_flags path oflags flags result = MakesEntry host ol
 
 -- a stream over a handle of its own of a file
 abbrev pub Doubles : {H M : Type 0} → Ghosts H → Files H → Files H → ℕ → (M → ℕ) → Result M HostError → Type 0
-Doubles host old new file handle answer = IsTrue host.told → Told (host.live old.ctx.host) (host.live new.ctx.host)
-    (host.world old.ctx.host) (host.world new.ctx.host) (Dup ((host.world old.ctx.host).held file))
-    (λ m. (host.world new.ctx.host).held (handle m)) answer
+Doubles host old new file handle answer = IsTrue host.modelled → RefinesCall (host.live old.ctx.host) (host.live new.ctx.host)
+    (host.model old.ctx.host) (host.model new.ctx.host) (Dup ((host.model old.ctx.host).held file))
+    (λ m. (host.model new.ctx.host).held (handle m)) answer
 
 -- `read_via_stream`
 abbrev pub StreamsFrom : {H : Type 0} → Ghosts H → Files H → Files H → ℕ → ℕ → Result Resource FsError → Type 0

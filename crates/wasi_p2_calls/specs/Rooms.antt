@@ -39,4 +39,4 @@ pub record ClosesHandle {H : Type 0} (host : Ghosts H) (old new : H) (handle : O
   pub faults : host.faults new ≡ host.faults old
   pub logged : host.lookups new ≡ host.lookups old
   pub live : host.live new ≡ live_without (host.live old) handle
-  pub told : IsTrue host.told → LeavesTree (host.live old) (host.live new) (host.world old) (host.world new)
+  pub modelled : IsTrue host.modelled → LeavesTree (host.live old) (host.live new) (host.model old) (host.model new)

@@ -1,6 +1,6 @@
 -- What the calls of a view do: each is a call of what its resource stands for.
 use Rattle.std.specs.Prelude.{List, ◌≡◌, ℕ, IsTrue, Option, None, Result, Ok, Err}
-use Rattle.wasi_host.specs.Lineage.{HasProvenance, Nothing}
+use Rattle.wasi_host.specs.Provenance.{HasProvenance, Nothing}
 use Rattle.wasi_host.specs.Tree.{Tree}
 use Rattle.wasi_host.specs.declared.errors.ErrorCode.{ErrorCode as LowerCode}
 use Rattle.wasi_host.specs.declared.errors.HostError.{HostError}
@@ -50,15 +50,15 @@ Passes {A = A} found same shown Did result =
 pub record Performs {H A B : Type 0} (host : Ghosts H) (old new : H) (own : Option LowerCode) (meant : Meant B)
     (shown : A → B) (answer : Result A HostError) : Type 0 where
   pub permit : Refuses own answer old new
-  pub does : IsTrue host.told → own ≡ None
-      → Resolved (host.live old) (host.world old) (host.world new) meant shown answer
+  pub does : IsTrue host.modelled → own ≡ None
+      → Resolved (host.live old) (host.model old) (host.model new) meant shown answer
 
 -- what a number's handle stands for
 abbrev pub node_held : {H : Type 0} → Ghosts H → Files H → ℕ → ℕ
-node_held host files h = ((host.world files.ctx.host).held h).node
+node_held host files h = ((host.model files.ctx.host).held h).node
 
 abbrev pub tree_in : {H : Type 0} → Ghosts H → Files H → Tree
-tree_in host files = (host.world files.ctx.host).tree
+tree_in host files = (host.model files.ctx.host).tree
 
 -- A call of what is found, which asks the host: nothing but the host changes; its look-ups come so; and it is the lower
 -- call of what is found
@@ -82,4 +82,4 @@ LooksAtNone before now = now ≡ before
 
 -- what is said of a host, before and after its own calls
 abbrev pub seen_in : {H : Type 0} → Ghosts H → Files H → HostSeen
-seen_in host files = host_seen host.faults host.live host.lookups host.world files.ctx.host
+seen_in host files = host_seen host.faults host.live host.lookups host.model files.ctx.host

@@ -4,7 +4,7 @@ use Rattle.serde_json.specs.Written.{outline}
 use Rattle.wasi_report.specs.Report.{number_value}
 use Rattle.wasi_report.specs.ReadBack.{FitsNumber}
 use Rattle.wasi_report.specs.Audit.{AuditedPreopen, AuditReport, preopen_value, audit_value, audit_text}
-use Rattle.wasi_report.specs.AuditReadBack.{FitsPreopen, FitsAudit, AuditsAreTold}
+use Rattle.wasi_report.specs.AuditReadBack.{FitsPreopen, FitsAudit, AuditsAreDetermined}
 use Rattle.wasi_report.proofs.ReadBack.{IsShallow, same_outline, shallow_list, shallow_number, same_list, same_number}
 use Rattle.wasi_report.proofs.ReadBack.{members_in, after_first, items_first, text_first, list_json}
 
@@ -42,7 +42,7 @@ same_audit a b p q e =
     ap (λ all. make all a.touched) (same_list FitsPreopen preopen_value same_preopen a.preopens b.preopens p.0 q.0 preopens)
     ∙ ap (make b.preopens) (same_list FitsNumber number_value same_number a.touched b.touched p.1 q.1 touched)
 
-pub told : AuditsAreTold
+pub determined : AuditsAreDetermined
 unfolding audit_text
-told a b p q e =
+determined a b p q e =
     same_audit a b p q (same_outline (audit_value a) (audit_value b) (shallow_audit a p) (shallow_audit b q) e)

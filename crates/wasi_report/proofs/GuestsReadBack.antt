@@ -2,11 +2,11 @@
 use Rattle.std.proofs.Common.{List, ◌≡◌, ap, ◌∙◌, arith}
 use Rattle.serde_json.specs.Data.{no_members}
 use Rattle.serde_json.specs.Written.{outline}
-use Rattle.wasi_tree.specs.Given.{Given}
+use Rattle.wasi_tree.specs.NodeData.{NodeData}
 use Rattle.wasi_report.specs.Report.{node_value}
 use Rattle.wasi_report.specs.ReadBack.{FitsNode}
 use Rattle.wasi_report.specs.Guests.{GuestReport, GuestsReport, guest_value, guests_value, guests_text}
-use Rattle.wasi_report.specs.GuestsReadBack.{FitsGuest, FitsGuests, GuestsAreTold}
+use Rattle.wasi_report.specs.GuestsReadBack.{FitsGuest, FitsGuests, GuestsAreDetermined}
 use Rattle.wasi_report.proofs.ReadBack.{IsShallow, same_outline, shallow_list, shallow_node, shallow_outcome, same_list, same_node, same_outcome}
 use Rattle.wasi_report.proofs.ReadBack.{members_in, after_first, items_first, list_json}
 
@@ -31,11 +31,11 @@ same_guests a b p q e =
     let from_guests = ap members_in e in
     let guests : list_json guest_value a.guests ≡ list_json guest_value b.guests = ap items_first from_guests in
     let tree : list_json node_value a.tree ≡ list_json node_value b.tree = ap items_first (ap after_first from_guests) in
-    let make : List GuestReport → List Given → GuestsReport = λ guests tree. record { guests = guests; tree = tree } in
+    let make : List GuestReport → List NodeData → GuestsReport = λ guests tree. record { guests = guests; tree = tree } in
     ap (λ guests. make guests a.tree) (same_list FitsGuest guest_value same_guest a.guests b.guests p.0 q.0 guests)
     ∙ ap (make b.guests) (same_list FitsNode node_value same_node a.tree b.tree p.1 q.1 tree)
 
-pub told : GuestsAreTold
+pub determined : GuestsAreDetermined
 unfolding guests_text
-told a b p q e =
+determined a b p q e =
     same_guests a b p q (same_outline (guests_value a) (guests_value b) (shallow_guests a p) (shallow_guests b q) e)

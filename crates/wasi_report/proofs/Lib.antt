@@ -1,4 +1,4 @@
-pub mod Telling
+pub mod Encoding
 pub mod ReadBack
 pub mod AuditReadBack
 pub mod TrialReadBack

@@ -26,7 +26,7 @@ use Rattle.serde_json.proofs.Texts.{print-outline}
 use Rattle.wasi_host.proofs.Times as times
 use Rattle.wasi_host.specs.declared.system_time.SystemTime.{SystemTime}
 use Rattle.wasi_host.specs.declared.bits.Bits.{Bits}
-use Rattle.wasi_tree.specs.Given.{Given, GivenContent, file, directory, link}
+use Rattle.wasi_tree.specs.NodeData.{NodeData, ContentData, file, directory, link}
 use Rattle.wasi_guest.specs.declared.answer.Answer.{Answer}
 use Rattle.wasi_guest.specs.declared.answer.Answer.TheVariants as answers
 use Rattle.wasi_guest.specs.declared.errno.Errno.{Errno}
@@ -39,7 +39,7 @@ use Rattle.wasi_guest.specs.declared.fdstat.Fdstat.{Fdstat}
 use Rattle.wasi_guest.specs.declared.filestat.Filestat.{Filestat}
 use Rattle.wasi_guest.specs.Errnos.{errno_name}
 use Rattle.wasi_report.specs.Report.{Report, report_value, report_text, list_value, put_all, number_value, fdstat_numbers, filestat_numbers, success_value, trap_name, answer_value, hex_value, node_value, time_value, times_value, content_member, bits_text, bit_letter, outcome_members}
-use Rattle.wasi_report.specs.ReadBack.{FitsNumber, FitsValue, FitsAnswer, FitsEntry, FitsContent, FitsTime, FitsNode, IsRising, IsOrdered, ReportsAreTold}
+use Rattle.wasi_report.specs.ReadBack.{FitsNumber, FitsValue, FitsAnswer, FitsEntry, FitsContent, FitsTime, FitsNode, IsRising, IsOrdered, ReportsAreDetermined}
 use Rattle.wasi_report.specs.Guests.{GuestReport}
 use Rattle.wasi_report.specs.GuestsReadBack.{FitsGuest}
 
@@ -324,8 +324,8 @@ shallow_time t fits = record {
   depth = omega arith;
 }
 
-told_time : (s t : SystemTime) → FitsTime s → FitsTime t → outline (time_value s) ≡ outline (time_value t) → s ≡ t
-told_time s t p q e =
+encoded_time : (s t : SystemTime) → FitsTime s → FitsTime t → outline (time_value s) ≡ outline (time_value t) → s ≡ t
+encoded_time s t p q e =
     let seconds_text : number_text (of_integer s.seconds) ≡ number_text (of_integer t.seconds) = cc in
     let nanoseconds_text : decimal s.nanoseconds ≡ decimal t.nanoseconds = cc in
     times.same_time s t
@@ -382,14 +382,14 @@ same_entries (x ∷ xs) (y ∷ ys) p q e =
 
 -- ---- nodes
 
-shallow_content : (c : GivenContent) (ms : Members) → FitsContent c → AreMembersShallow 2 (members_outline ms) → AreMembersShallow 2 (members_outline (content_member c ms))
+shallow_content : (c : ContentData) (ms : Members) → FitsContent c → AreMembersShallow 2 (members_outline ms) → AreMembersShallow 2 (members_outline (content_member c ms))
 shallow_content (file bytes) ms fits others = record { numbers = (tt, others.numbers); depth = omega arith }
 shallow_content (directory entries) ms fits others =
     let inside : AreMembersShallow 0 (members_outline (put_all entries no_members)) = rw (put_rising entries fits.0) (shallow_entries entries fits.1) in
     record { numbers = (inside.numbers, others.numbers); depth = omega arith }
 shallow_content (link text) ms fits others = record { numbers = (tt, others.numbers); depth = omega arith }
 
-same_content : (c d : GivenContent) (ms ns : Members) → FitsContent c → FitsContent d → members_outline (content_member c ms) ≡ members_outline (content_member d ns)
+same_content : (c d : ContentData) (ms ns : Members) → FitsContent c → FitsContent d → members_outline (content_member c ms) ≡ members_outline (content_member d ns)
     → (c ≡ d) × (members_outline ms ≡ members_outline ns)
 same_content (file xs) (file ys) ms ns p q e =
     let text : encode_lower xs ≡ encode_lower ys = cc in
@@ -411,7 +411,7 @@ same_content (link xs) (link ys) ms ns p q e =
     let rest : members_outline ms ≡ members_outline ns = cc in
     (ap link text, rest)
 
-pub shallow_node : (g : Given) → FitsNode g → IsShallow 3 (outline (node_value g))
+pub shallow_node : (g : NodeData) → FitsNode g → IsShallow 3 (outline (node_value g))
 shallow_node g fits =
     let accessed = shallow_time g.atime fits.times.atime in
     let modified = shallow_time g.mtime fits.times.mtime in
@@ -421,22 +421,22 @@ shallow_node g fits =
     let content = shallow_content g.content _ fits.content times in
     record { numbers = (tt, content.numbers); depth = omega arith }
 
-pub same_node : (a b : Given) → FitsNode a → FitsNode b → outline (node_value a) ≡ outline (node_value b) → a ≡ b
+pub same_node : (a b : NodeData) → FitsNode a → FitsNode b → outline (node_value a) ≡ outline (node_value b) → a ≡ b
 same_node a b p q e =
     let letters : bits_text a.bits ≡ bits_text b.bits = cc in
-    let times_of : Given → Members = λ g. member (codes "times") (times_value g) no_members in
+    let times_of : NodeData → Members = λ g. member (codes "times") (times_value g) no_members in
     let inside : members_outline (content_member a.content (times_of a)) ≡ members_outline (content_member b.content (times_of b)) = cc in
     let parts = same_content a.content b.content (times_of a) (times_of b) p.content q.content inside in
     let times : members_outline (times_of a) ≡ members_outline (times_of b) = parts.1 in
     let accessed : outline (time_value a.atime) ≡ outline (time_value b.atime) = cc in
     let modified : outline (time_value a.mtime) ≡ outline (time_value b.mtime) = cc in
     let created : outline (time_value a.btime) ≡ outline (time_value b.btime) = cc in
-    let make : GivenContent → Bits → SystemTime → SystemTime → SystemTime → Given = λ c bits s t u. record { content = c; bits = bits; atime = s; mtime = t; btime = u } in
+    let make : ContentData → Bits → SystemTime → SystemTime → SystemTime → NodeData = λ c bits s t u. record { content = c; bits = bits; atime = s; mtime = t; btime = u } in
     ap (λ c. make c a.bits a.atime a.mtime a.btime) parts.0
     ∙ ap (λ bits. make b.content bits a.atime a.mtime a.btime) (same_bits a.bits b.bits letters)
-    ∙ ap (λ t. make b.content b.bits t a.mtime a.btime) (told_time a.atime b.atime p.times.atime q.times.atime accessed)
-    ∙ ap (λ t. make b.content b.bits b.atime t a.btime) (told_time a.mtime b.mtime p.times.mtime q.times.mtime modified)
-    ∙ ap (make b.content b.bits b.atime b.mtime) (told_time a.btime b.btime p.times.btime q.times.btime created)
+    ∙ ap (λ t. make b.content b.bits t a.mtime a.btime) (encoded_time a.atime b.atime p.times.atime q.times.atime accessed)
+    ∙ ap (λ t. make b.content b.bits b.atime t a.btime) (encoded_time a.mtime b.mtime p.times.mtime q.times.mtime modified)
+    ∙ ap (make b.content b.bits b.atime b.mtime) (encoded_time a.btime b.btime p.times.btime q.times.btime created)
 
 -- ---- what came of a run or of a guest
 
@@ -502,15 +502,15 @@ same_report a b p q e =
     let from_touched : members_outline (last_members a) ≡ members_outline (last_members b) = parts.1 in
     let touched : list_json number_value a.touched ≡ list_json number_value b.touched = ap items_first from_touched in
     let nodes : list_json node_value a.tree ≡ list_json node_value b.tree = ap items_first (ap after_first from_touched) in
-    let make : GuestReport → List ℕ → List Given → Report = λ o touched tree.
+    let make : GuestReport → List ℕ → List NodeData → Report = λ o touched tree.
     record { answers = o.answers; memory = o.memory; stderr = o.stderr; stdout = o.stdout; touched = touched; tree = tree } in
     ap (λ o. make o a.touched a.tree) parts.0
     ∙ ap (λ x. make (outcome_of b) x a.tree) (same_list FitsNumber number_value same_number a.touched b.touched p.4 q.4 touched)
     ∙ ap (make (outcome_of b) b.touched) (same_list FitsNode node_value same_node a.tree b.tree p.5 q.5 nodes)
 
-pub told : ReportsAreTold
+pub determined : ReportsAreDetermined
 unfolding report_text
-told a b p q e =
+determined a b p q e =
     same_report a b p q (same_outline (report_value a) (report_value b) (deeper (shallow_report a p)) (deeper (shallow_report b q)) e)
   where
     deeper : {j : json.Json} → IsShallow 127 j → IsShallow 128 j

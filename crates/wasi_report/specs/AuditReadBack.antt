@@ -12,5 +12,5 @@ unfoldable pub FitsAudit : AuditReport → Type 0
 FitsAudit a = All FitsPreopen a.preopens × All FitsNumber a.touched
 
 -- two such audits with the same text are the same
-abbrev pub AuditsAreTold : Type 0
-AuditsAreTold = (a b : AuditReport) → FitsAudit a → FitsAudit b → audit_text a ≡ audit_text b → a ≡ b
+abbrev pub AuditsAreDetermined : Type 0
+AuditsAreDetermined = (a b : AuditReport) → FitsAudit a → FitsAudit b → audit_text a ≡ audit_text b → a ≡ b

@@ -3,7 +3,7 @@ use Rattle.std.specs.Prelude.{ℕ, List, [], ◌∷◌, ◌++◌, codes, map}
 use Rattle.serde_json.specs.Data.{Data, object, member, no_members}
 use Rattle.serde_json.specs.Written.{compact_text}
 use Rattle.wasi_guest.specs.declared.answer.Answer.{Answer}
-use Rattle.wasi_tree.specs.Given.{Given}
+use Rattle.wasi_tree.specs.NodeData.{NodeData}
 use Rattle.wasi_report.specs.Report.{list_value, node_value, outcome_members}
 use Rattle.wasi_report.specs.declared.guests.GuestOutcome.{GuestOutcome}
 
@@ -17,7 +17,7 @@ pub record GuestReport : Type 0 where
 pub record GuestsReport : Type 0 where
   pub guests : List GuestReport
   -- the nodes of the tree that the guests left
-  pub tree : List Given
+  pub tree : List NodeData
 
 -- what came of a guest, as plain data
 abbrev pub guest_reported : GuestOutcome → GuestReport
@@ -29,7 +29,7 @@ guest_reported guest = record {
 }
 
 -- what came of each guest, in order, and these nodes, as plain data
-abbrev pub guests_reported : List GuestOutcome → List Given → GuestsReport
+abbrev pub guests_reported : List GuestOutcome → List NodeData → GuestsReport
 guests_reported guests nodes = record { guests = map guest_reported guests; tree = nodes }
 
 abbrev pub guest_value : GuestReport → Data

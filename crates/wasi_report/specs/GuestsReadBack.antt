@@ -13,5 +13,5 @@ unfoldable pub FitsGuests : GuestsReport → Type 0
 FitsGuests r = All FitsGuest r.guests × All FitsNode r.tree
 
 -- two such runs with the same text came to the same
-abbrev pub GuestsAreTold : Type 0
-GuestsAreTold = (a b : GuestsReport) → FitsGuests a → FitsGuests b → guests_text a ≡ guests_text b → a ≡ b
+abbrev pub GuestsAreDetermined : Type 0
+GuestsAreDetermined = (a b : GuestsReport) → FitsGuests a → FitsGuests b → guests_text a ≡ guests_text b → a ≡ b

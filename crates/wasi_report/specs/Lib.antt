@@ -1,5 +1,5 @@
 pub mod Report
-pub mod Told
+pub mod Encoded
 pub mod Trial
 pub mod TrialReadBack
 pub mod ReadBack

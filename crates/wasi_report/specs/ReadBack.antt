@@ -6,7 +6,7 @@ use Rattle.std.specs.List.Sorted.{IsStrictlySortedBy}
 use Rattle.std.specs.Ordering.{nat_cmp}
 use Rattle.hex.specs.Hex.{IsBytes}
 use Rattle.wasi_host.specs.declared.system_time.SystemTime.{SystemTime}
-use Rattle.wasi_tree.specs.Given.{Given, GivenContent, file, directory, link, given_entries}
+use Rattle.wasi_tree.specs.NodeData.{NodeData, ContentData, file, directory, link, data_entries}
 use Rattle.wasi_report.specs.Report.{Report, fdstat_numbers, filestat_numbers, report_text}
 use Rattle.wasi_guest.specs.declared.answer.Answer.{Answer}
 use Rattle.wasi_guest.specs.declared.answer.Answer.TheVariants as answers
@@ -49,10 +49,10 @@ abbrev pub IsRising : List (List ℕ × ℕ) → Type 0
 IsRising entries = IsStrictlySortedBy (slice_cmp nat_cmp) (map (λ e. e.0) entries)
 
 -- where the node is a directory, its names do
-abbrev pub HasRisingNames : Given → Type 0
-HasRisingNames node = IsRising (given_entries node.content)
+abbrev pub HasRisingNames : NodeData → Type 0
+HasRisingNames node = IsRising (data_entries node.content)
 
-abbrev pub FitsContent : GivenContent → Type 0
+abbrev pub FitsContent : ContentData → Type 0
 FitsContent (file bytes) = IsBytes bytes
 FitsContent (directory entries) = IsRising entries × All FitsEntry entries
 FitsContent (link text) = ⊤
@@ -62,12 +62,12 @@ pub record FitsTime (time : SystemTime) : Type 0 where
   pub seconds : mag time.seconds < 2 ^ 63
   pub nanoseconds : FitsNumber time.nanoseconds
 
-pub record FitsTimes (node : Given) : Type 0 where
+pub record FitsTimes (node : NodeData) : Type 0 where
   pub atime : FitsTime node.atime
   pub mtime : FitsTime node.mtime
   pub btime : FitsTime node.btime
 
-pub record FitsNode (node : Given) : Type 0 where
+pub record FitsNode (node : NodeData) : Type 0 where
   pub content : FitsContent node.content
   pub times : FitsTimes node
 
@@ -78,5 +78,5 @@ IsOrdered r =
     × All FitsNumber r.touched × All FitsNode r.tree
 
 -- two such reports with the same text are the same
-abbrev pub ReportsAreTold : Type 0
-ReportsAreTold = (a b : Report) → IsOrdered a → IsOrdered b → report_text a ≡ report_text b → a ≡ b
+abbrev pub ReportsAreDetermined : Type 0
+ReportsAreDetermined = (a b : Report) → IsOrdered a → IsOrdered b → report_text a ≡ report_text b → a ≡ b

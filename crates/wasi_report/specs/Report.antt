@@ -8,7 +8,7 @@ use Rattle.serde_json.specs.Written.{compact_text}
 use Rattle.wasi_host.specs.Tree.{Node}
 use Rattle.wasi_host.specs.declared.system_time.SystemTime.{SystemTime}
 use Rattle.wasi_host.specs.declared.bits.Bits.{Bits}
-use Rattle.wasi_tree.specs.Given.{Given, given_of, GivenContent, file, directory, link}
+use Rattle.wasi_tree.specs.NodeData.{NodeData, data_of_node, ContentData, file, directory, link}
 use Rattle.wasi_guest.specs.Errnos.{errno_name}
 use Rattle.wasi_guest.specs.declared.answer.Answer.{Answer}
 use Rattle.wasi_guest.specs.declared.answer.Answer.TheVariants as answers
@@ -28,7 +28,7 @@ pub record Report : Type 0 where
   pub stdout : List ℕ
   -- the numbers of the nodes that were touched
   pub touched : List ℕ
-  pub tree : List Given
+  pub tree : List NodeData
 
 -- what a run came to and the nodes of the tree that it left, as plain data
 abbrev pub reported : Outcome → List Node → Report
@@ -38,7 +38,7 @@ reported o nodes = record {
   stderr = o.stderr.items;
   stdout = o.stdout.items;
   touched = o.touched.items;
-  tree = map given_of nodes;
+  tree = map data_of_node nodes;
 }
 
 -- an object with one member
@@ -101,7 +101,7 @@ abbrev pub time_value : SystemTime → Data
 time_value time = array (item (number (of_integer time.seconds)) (item (number_value time.nanoseconds) no_items))
 
 -- when it was accessed, modified and created
-abbrev pub times_value : Given → Data
+abbrev pub times_value : NodeData → Data
 times_value node = array (item (time_value node.atime) (item (time_value node.mtime) (item (time_value node.btime) no_items)))
 
 -- the members, with each name at its number, one after another
@@ -110,12 +110,12 @@ put_all [] members = members
 put_all (entry ∷ entries) members = put_all entries (put entry.0 (number_value entry.1) members)
 
 -- what a node is, before other members
-abbrev pub content_member : GivenContent → Members → Members
+abbrev pub content_member : ContentData → Members → Members
 content_member (file bytes) others = member (codes "file") (hex_value bytes) others
 content_member (directory entries) others = member (codes "dir") (object (put_all entries no_members)) others
 content_member (link text) others = member (codes "link") (string text) others
 
-abbrev pub node_value : Given → Data
+abbrev pub node_value : NodeData → Data
 node_value node =
     object (member (codes "bits") (string (bits_text node.bits)) (content_member node.content (member (codes "times") (times_value node) no_members)))
 

@@ -3,19 +3,19 @@ use Rattle.std.specs.Prelude.{ℕ, List, [], ◌∷◌, ◌++◌, codes, map}
 use Rattle.serde_json.specs.Data.{Data, object, member, no_members}
 use Rattle.serde_json.specs.Written.{compact_text}
 use Rattle.wasi_host.specs.Tree.{Node}
-use Rattle.wasi_tree.specs.Given.{Given, given_of}
+use Rattle.wasi_tree.specs.NodeData.{NodeData, data_of_node}
 use Rattle.wasi_report.specs.Report.{Report, list_value, node_value, number_value, report_value}
 
 pub record Trial : Type 0 where
   -- the nodes of the tree that stays
-  pub base : List Given
+  pub base : List NodeData
   -- the numbers of the nodes that were worked on
   pub kept : List ℕ
   pub report : Report
 
 -- the nodes of a tree, numbers and a report, as plain data
 abbrev pub trial_by : List Node → List ℕ → Report → Trial
-trial_by nodes kept report = record { base = map given_of nodes; kept = kept; report = report }
+trial_by nodes kept report = record { base = map data_of_node nodes; kept = kept; report = report }
 
 -- the keys stand in byte order
 abbrev pub trial_value : Trial → Data

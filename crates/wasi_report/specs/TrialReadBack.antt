@@ -8,5 +8,5 @@ unfoldable pub FitsTrial : Trial → Type 0
 FitsTrial t = All FitsNode t.base × All FitsNumber t.kept × IsOrdered t.report
 
 -- two such trials with the same text are the same
-abbrev pub TrialsAreTold : Type 0
-TrialsAreTold = (a b : Trial) → FitsTrial a → FitsTrial b → trial_text a ≡ trial_text b → a ≡ b
+abbrev pub TrialsAreDetermined : Type 0
+TrialsAreDetermined = (a b : Trial) → FitsTrial a → FitsTrial b → trial_text a ≡ trial_text b → a ≡ b

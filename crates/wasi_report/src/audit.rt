@@ -2,9 +2,9 @@
 ghost use Rattle.std.specs.Prelude.{◌≡◌, ◌++◌, IfOk, OnOk};
 ghost use Rattle.wasi_report.specs.Audit.{audited, audited_preopen, audit_text, audit_value, preopen_value};
 ghost use Rattle.wasi_report.specs.AuditReadBack.{FitsAudit, FitsPreopen};
-ghost use Rattle.wasi_report.specs.Told.{told};
+ghost use Rattle.wasi_report.specs.Encoded.{tokens_of};
 
-use crate::encode::{DigitRoom, Told, tell_list_at};
+use crate::encode::{DigitRoom, EncodeJson, encode_list_at};
 use json::Writer;
 use std::alloc::{AllocError, Allocator, Global};
 
@@ -16,12 +16,12 @@ pub struct PreopenNodes<'a> {
 }
 
 /// An object of the name and the numbers.
-impl Told for PreopenNodes<'_> {
+impl EncodeJson for PreopenNodes<'_> {
     ghost value = { λ preopen. preopen_value (audited_preopen preopen) };
 
     ghost fits = { λ preopen. FitsPreopen (audited_preopen preopen) };
 
-    fn tell<A: Allocator + Copy>(
+    fn encode_json<A: Allocator + Copy>(
         &self,
         digits: DigitRoom<A>,
         out: &mut Writer,
@@ -29,7 +29,7 @@ impl Told for PreopenNodes<'_> {
         out.begin_object()?;
         out.key("name")?;
         out.string(self.name)?;
-        tell_list_at(digits, "nodes", self.nodes, out)?;
+        encode_list_at(digits, "nodes", self.nodes, out)?;
         out.end_object()
     }
 }
@@ -37,7 +37,7 @@ impl Told for PreopenNodes<'_> {
 /// The audit's text: one object of JSON with no space and with keys in byte order, and a newline. The preopened directories
 /// stand in the order in which they are given, and numbers, in decimal, too. The text is written in the memory of a buffer,
 /// whose bytes are let go. `AllocError` where the buffer can't grow to it. It is a text that tells the audit, as
-/// `audits_are_told` says.
+/// `audits_are_determined` says.
 pub fn audit_in(
     alloc: Global,
     mut buffer: Vec<u8>,
@@ -50,13 +50,13 @@ pub fn audit_in(
     buffer.clear();
     let mut out = Writer::new(buffer);
     let digits = DigitRoom { room: alloc, alloc };
-    tell_audit(digits, preopens, touched, &mut out)?;
+    encode_audit(digits, preopens, touched, &mut out)?;
     let mut text = out.into_inner();
     text.push(b'\n')?;
     Ok(text)
 }
 
-fn tell_audit<A: Allocator + Copy>(
+fn encode_audit<A: Allocator + Copy>(
     digits: DigitRoom<A>,
     preopens: &[PreopenNodes<'_>],
     touched: &[u64],
@@ -64,11 +64,11 @@ fn tell_audit<A: Allocator + Copy>(
 ) -> Result<(), AllocError>
     ensures before { out.new.before ≡ out.old.before }
     ensures tokens { OnOk result (out.new.tokens
-        ≡ out.old.tokens ++ told (audit_value (audited preopens.now touched.now))) }
+        ≡ out.old.tokens ++ tokens_of (audit_value (audited preopens.now touched.now))) }
     ensures fits { OnOk result (FitsAudit (audited preopens.now touched.now)) }
 {
     out.begin_object()?;
-    tell_list_at(digits, "preopens", preopens, out)?;
-    tell_list_at(digits, "touched", touched, out)?;
+    encode_list_at(digits, "preopens", preopens, out)?;
+    encode_list_at(digits, "touched", touched, out)?;
     out.end_object()
 }

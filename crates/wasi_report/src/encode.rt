@@ -4,7 +4,7 @@ ghost use Rattle.hex.specs.Hex.{IsBytes};
 ghost use Rattle.serde_json.specs.Data.{Data};
 ghost use Rattle.wasi_report.specs.ReadBack.{FitsNumber, FitsTime};
 ghost use Rattle.wasi_report.specs.Report.{list_value, hex_value, number_value, time_value};
-ghost use Rattle.wasi_report.specs.Told.{told, told_at};
+ghost use Rattle.wasi_report.specs.Encoded.{tokens_of, member_tokens};
 
 use json::Writer;
 use std::alloc::{AllocError, Allocator, Global};
@@ -19,28 +19,28 @@ pub struct DigitRoom<A: Allocator + Copy> {
 }
 
 /// What is written as a value of JSON.
-pub trait Told {
+pub trait EncodeJson {
     ghost value: { Self → Data };
 
     /// In range, as each value of the type is: numbers fit 64 bits, and bytes are bytes.
     ghost fits: { Self → Type 0 };
 
-    fn tell<A: Allocator + Copy>(
+    fn encode_json<A: Allocator + Copy>(
         &self,
         digits: DigitRoom<A>,
         out: &mut Writer,
     ) -> Result<(), AllocError>
         ensures before { out.new.before ≡ out.old.before }
-        ensures tokens { OnOk result (out.new.tokens ≡ out.old.tokens ++ told (value self.now)) }
+        ensures tokens { OnOk result (out.new.tokens ≡ out.old.tokens ++ tokens_of (value self.now)) }
         ensures fits { OnOk result (fits self.now) };
 }
 
-impl Told for u64 {
+impl EncodeJson for u64 {
     ghost value = { number_value };
 
     ghost fits = { FitsNumber };
 
-    fn tell<A: Allocator + Copy>(
+    fn encode_json<A: Allocator + Copy>(
         &self,
         _digits: DigitRoom<A>,
         out: &mut Writer,
@@ -50,26 +50,26 @@ impl Told for u64 {
 }
 
 /// Bytes, in hex.
-impl Told for Vec<u8> {
+impl EncodeJson for Vec<u8> {
     ghost value = { λ bytes. hex_value bytes.items };
 
     ghost fits = { λ bytes. IsBytes bytes.items };
 
-    fn tell<A: Allocator + Copy>(
+    fn encode_json<A: Allocator + Copy>(
         &self,
         digits: DigitRoom<A>,
         out: &mut Writer,
     ) -> Result<(), AllocError> {
-        tell_bytes(digits, self.as_slice(), out)
+        encode_bytes(digits, self.as_slice(), out)
     }
 }
 
-impl Told for SystemTime {
+impl EncodeJson for SystemTime {
     ghost value = { time_value };
 
     ghost fits = { FitsTime };
 
-    fn tell<A: Allocator + Copy>(
+    fn encode_json<A: Allocator + Copy>(
         &self,
         _digits: DigitRoom<A>,
         out: &mut Writer,
@@ -82,13 +82,13 @@ impl Told for SystemTime {
 }
 
 /// Bytes, in hex.
-pub fn tell_bytes<A: Allocator + Copy>(
+pub fn encode_bytes<A: Allocator + Copy>(
     digits: DigitRoom<A>,
     bytes: &[u8],
     out: &mut Writer,
 ) -> Result<(), AllocError>
     ensures before { out.new.before ≡ out.old.before }
-    ensures tokens { OnOk result (out.new.tokens ≡ out.old.tokens ++ told (hex_value bytes.now)) }
+    ensures tokens { OnOk result (out.new.tokens ≡ out.old.tokens ++ tokens_of (hex_value bytes.now)) }
     ensures fits { IsBytes bytes.now }
 {
     if let Ok(text) = hex::encode(digits.room, bytes) {
@@ -99,33 +99,33 @@ pub fn tell_bytes<A: Allocator + Copy>(
 }
 
 /// The items of a list, in order.
-pub fn tell_list<A: Allocator + Copy, T: Told>(
+pub fn encode_list<A: Allocator + Copy, T: EncodeJson>(
     digits: DigitRoom<A>,
     items: &[T],
     out: &mut Writer,
 ) -> Result<(), AllocError>
     ensures before { out.new.before ≡ out.old.before }
-    ensures tokens { OnOk result (out.new.tokens ≡ out.old.tokens ++ told (list_value T.value items.now)) }
+    ensures tokens { OnOk result (out.new.tokens ≡ out.old.tokens ++ tokens_of (list_value T.value items.now)) }
     ensures fits { OnOk result (All T.fits items.now) }
 {
     out.begin_array()?;
     for item in items {
-        item.tell(digits, out)?;
+        item.encode_json(digits, out)?;
     }
     out.end_array()
 }
 
 /// A member: a name, and the items of a list in order.
-pub fn tell_list_at<A: Allocator + Copy, T: Told>(
+pub fn encode_list_at<A: Allocator + Copy, T: EncodeJson>(
     digits: DigitRoom<A>,
     name: &str,
     items: &[T],
     out: &mut Writer,
 ) -> Result<(), AllocError>
     ensures before { out.new.before ≡ out.old.before }
-    ensures tokens { OnOk result (out.new.tokens ≡ out.old.tokens ++ told_at name.now (list_value T.value items.now)) }
+    ensures tokens { OnOk result (out.new.tokens ≡ out.old.tokens ++ member_tokens name.now (list_value T.value items.now)) }
     ensures fits { OnOk result (All T.fits items.now) }
 {
     out.key(name)?;
-    tell_list(digits, items, out)
+    encode_list(digits, items, out)
 }

@@ -3,38 +3,38 @@ ghost use Rattle.std.specs.Prelude.{◌≡◌, ◌++◌, OnOk, All, codes};
 ghost use Rattle.serde_json.specs.Data.{string};
 ghost use Rattle.wasi_report.specs.ReadBack.{FitsAnswer, FitsFdstat, FitsFilestat, FitsValue};
 ghost use Rattle.wasi_report.specs.Report.{only, list_value, number_value, fdstat_value, filestat_value, success_value, trap_name, answer_value};
-ghost use Rattle.wasi_report.specs.Told.{told};
+ghost use Rattle.wasi_report.specs.Encoded.{tokens_of};
 
-use crate::encode::{DigitRoom, Told, tell_list};
+use crate::encode::{DigitRoom, EncodeJson, encode_list};
 use json::Writer;
 use std::alloc::{AllocError, Allocator};
 use wasi_guest::{Answer, Answers, Fdstat, Filestat, TrapKind, Value};
 
-impl Told for Answer {
+impl EncodeJson for Answer {
     ghost value = { answer_value };
 
     ghost fits = { FitsAnswer };
 
-    fn tell<A: Allocator + Copy>(
+    fn encode_json<A: Allocator + Copy>(
         &self,
         digits: DigitRoom<A>,
         out: &mut Writer,
     ) -> Result<(), AllocError> {
         match *self {
-            Answer::Ok(value) => tell_success(digits, value, out),
-            Answer::Errno(errno) => tell_text("errno", errno.name(), out),
-            Answer::Trap(kind) => tell_text("trap", trap_name(kind), out),
-            Answer::Exit(status) => tell_exit(status, out),
+            Answer::Ok(value) => encode_success(digits, value, out),
+            Answer::Errno(errno) => encode_text("errno", errno.name(), out),
+            Answer::Trap(kind) => encode_text("trap", trap_name(kind), out),
+            Answer::Exit(status) => encode_exit(status, out),
         }
     }
 }
 
-impl Told for Value {
+impl EncodeJson for Value {
     ghost value = { success_value };
 
     ghost fits = { FitsValue };
 
-    fn tell<A: Allocator + Copy>(
+    fn encode_json<A: Allocator + Copy>(
         &self,
         digits: DigitRoom<A>,
         out: &mut Writer,
@@ -42,20 +42,20 @@ impl Told for Value {
         match *self {
             Value::Unit => out.null(),
             Value::Number(n) => out.u64(n),
-            Value::Pair(first, second) => tell_list(digits, &[first as u64, second as u64], out),
-            Value::Fdstat(stat) => stat.tell(digits, out),
-            Value::Filestat(stat) => stat.tell(digits, out),
+            Value::Pair(first, second) => encode_list(digits, &[first as u64, second as u64], out),
+            Value::Fdstat(stat) => stat.encode_json(digits, out),
+            Value::Filestat(stat) => stat.encode_json(digits, out),
         }
     }
 }
 
 /// A list of the fields, in preview1's order.
-impl Told for Fdstat {
+impl EncodeJson for Fdstat {
     ghost value = { fdstat_value };
 
     ghost fits = { FitsFdstat };
 
-    fn tell<A: Allocator + Copy>(
+    fn encode_json<A: Allocator + Copy>(
         &self,
         digits: DigitRoom<A>,
         out: &mut Writer,
@@ -66,17 +66,17 @@ impl Told for Fdstat {
             self.base,
             self.inheriting,
         ];
-        tell_list(digits, &numbers, out)
+        encode_list(digits, &numbers, out)
     }
 }
 
 /// A list of the fields, in preview1's order.
-impl Told for Filestat {
+impl EncodeJson for Filestat {
     ghost value = { filestat_value };
 
     ghost fits = { FitsFilestat };
 
-    fn tell<A: Allocator + Copy>(
+    fn encode_json<A: Allocator + Copy>(
         &self,
         digits: DigitRoom<A>,
         out: &mut Writer,
@@ -91,24 +91,24 @@ impl Told for Filestat {
             self.mtim,
             self.ctim,
         ];
-        tell_list(digits, &numbers, out)
+        encode_list(digits, &numbers, out)
     }
 }
 
 /// The answers, in order.
-pub fn tell_answers<A: Allocator + Copy>(
+pub fn encode_answer_list<A: Allocator + Copy>(
     digits: DigitRoom<A>,
     answers: &Answers,
     out: &mut Writer,
 ) -> Result<(), AllocError>
     ensures before { out.new.before ≡ out.old.before }
     ensures tokens { OnOk result (out.new.tokens
-        ≡ out.old.tokens ++ told (list_value answer_value answers.now.answers)) }
+        ≡ out.old.tokens ++ tokens_of (list_value answer_value answers.now.answers)) }
     ensures fits { OnOk result (All FitsAnswer answers.now.answers) }
 {
     out.begin_array()?;
     for i in 0..answers.len() {
-        answers.at(i).tell(digits, out)?;
+        answers.at(i).encode_json(digits, out)?;
     }
     out.end_array()
 }
@@ -123,24 +123,24 @@ fn trap_name(kind: TrapKind) -> &'static str
     }
 }
 
-fn tell_success<A: Allocator + Copy>(
+fn encode_success<A: Allocator + Copy>(
     digits: DigitRoom<A>,
     value: Value,
     out: &mut Writer,
 ) -> Result<(), AllocError>
     ensures before { out.new.before ≡ out.old.before }
-    ensures tokens { OnOk result (out.new.tokens ≡ out.old.tokens ++ told (only (codes "ok") (success_value value))) }
+    ensures tokens { OnOk result (out.new.tokens ≡ out.old.tokens ++ tokens_of (only (codes "ok") (success_value value))) }
     ensures fits { OnOk result (FitsValue value) }
 {
     out.begin_object()?;
     out.key("ok")?;
-    value.tell(digits, out)?;
+    value.encode_json(digits, out)?;
     out.end_object()
 }
 
-fn tell_exit(status: u32, out: &mut Writer) -> Result<(), AllocError>
+fn encode_exit(status: u32, out: &mut Writer) -> Result<(), AllocError>
     ensures before { out.new.before ≡ out.old.before }
-    ensures tokens { OnOk result (out.new.tokens ≡ out.old.tokens ++ told (only (codes "exit") (number_value status))) }
+    ensures tokens { OnOk result (out.new.tokens ≡ out.old.tokens ++ tokens_of (only (codes "exit") (number_value status))) }
 {
     out.begin_object()?;
     out.key("exit")?;
@@ -149,9 +149,9 @@ fn tell_exit(status: u32, out: &mut Writer) -> Result<(), AllocError>
 }
 
 // An object with one text.
-fn tell_text(name: &str, text: &str, out: &mut Writer) -> Result<(), AllocError>
+fn encode_text(name: &str, text: &str, out: &mut Writer) -> Result<(), AllocError>
     ensures before { out.new.before ≡ out.old.before }
-    ensures tokens { OnOk result (out.new.tokens ≡ out.old.tokens ++ told (only name.now (string text.now))) }
+    ensures tokens { OnOk result (out.new.tokens ≡ out.old.tokens ++ tokens_of (only name.now (string text.now))) }
 {
     out.begin_object()?;
     out.key(name)?;

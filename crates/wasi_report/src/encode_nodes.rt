@@ -1,13 +1,13 @@
 //! How the nodes of a tree are reported.
 ghost use Rattle.std.specs.Prelude.{◌≡◌, ◌++◌, ◌∷◌, ℕ, List, [], MatchOption, OnOk, All, map};
 ghost use Rattle.serde_json.specs.Data.{object, no_members};
-ghost use Rattle.wasi_tree.specs.Given.{directory, given, given_content, given_entries, pair_of};
+ghost use Rattle.wasi_tree.specs.NodeData.{directory, node_data, content_data, data_entries, pair_of};
 ghost use Rattle.wasi_tree.specs.Viewed.{viewed, viewed_content};
 ghost use Rattle.wasi_report.specs.ReadBack.{FitsTimes, FitsContent, FitsNode, HasRisingNames, IsRising};
 ghost use Rattle.wasi_report.specs.Report.{bits_text, list_value, times_value, put_all, node_value};
-ghost use Rattle.wasi_report.specs.Told.{told, content_told, lent_node};
+ghost use Rattle.wasi_report.specs.Encoded.{tokens_of, content_tokens, lent_node};
 
-use crate::encode::{DigitRoom, Told, tell_bytes};
+use crate::encode::{DigitRoom, EncodeJson, encode_bytes};
 use json::Writer;
 use std::alloc::{AllocError, Allocator};
 use wasi_host::{Bits, SystemTime};
@@ -53,14 +53,14 @@ pub struct LentNode<'a> {
 }
 
 /// A node, as one object with no space and with keys in byte order. A directory has these names.
-pub fn tell_node<A: Allocator + Copy>(
+pub fn encode_node<A: Allocator + Copy>(
     digits: DigitRoom<A>,
     node: &NodeView<'_>,
     names: &EntryCursor<'_>,
     out: &mut Writer,
 ) -> Result<(), AllocError>
     ensures before { out.new.before ≡ out.old.before }
-    ensures tokens { OnOk result (out.new.tokens ≡ out.old.tokens ++ told (node_value (viewed names.now node.now))) }
+    ensures tokens { OnOk result (out.new.tokens ≡ out.old.tokens ++ tokens_of (node_value (viewed names.now node.now))) }
     ensures fits { OnOk result (FitsNode (viewed names.now node.now)) }
 {
     let lent = LentNode {
@@ -70,36 +70,36 @@ pub fn tell_node<A: Allocator + Copy>(
         mtime: node.mtime,
         btime: node.btime,
     };
-    tell_lent(digits, &lent, &mut names.again(), out)
+    encode_lent(digits, &lent, &mut names.again(), out)
 }
 
 /// The nodes of a list, in order, each as in a report.
-pub fn tell_new_nodes<A: Allocator + Copy>(
+pub fn encode_new_nodes<A: Allocator + Copy>(
     digits: DigitRoom<A>,
     nodes: &[NewNode],
     out: &mut Writer,
 ) -> Result<(), AllocError>
-    requires { All HasRisingNames (map given nodes.now) }
+    requires { All HasRisingNames (map node_data nodes.now) }
     ensures before { out.new.before ≡ out.old.before }
-    ensures tokens { OnOk result (out.new.tokens ≡ out.old.tokens ++ told (list_value node_value (map given nodes.now))) }
-    ensures fits { OnOk result (All FitsNode (map given nodes.now)) }
+    ensures tokens { OnOk result (out.new.tokens ≡ out.old.tokens ++ tokens_of (list_value node_value (map node_data nodes.now))) }
+    ensures fits { OnOk result (All FitsNode (map node_data nodes.now)) }
 {
     out.begin_array()?;
     for node in nodes {
-        tell_new_node(digits, node, out)?;
+        encode_new_node(digits, node, out)?;
     }
     out.end_array()
 }
 
-fn tell_new_node<A: Allocator + Copy>(
+fn encode_new_node<A: Allocator + Copy>(
     digits: DigitRoom<A>,
     node: &NewNode,
     out: &mut Writer,
 ) -> Result<(), AllocError>
-    requires { HasRisingNames (given node.now) }
+    requires { HasRisingNames (node_data node.now) }
     ensures before { out.new.before ≡ out.old.before }
-    ensures tokens { OnOk result (out.new.tokens ≡ out.old.tokens ++ told (node_value (given node.now))) }
-    ensures fits { OnOk result (FitsNode (given node.now)) }
+    ensures tokens { OnOk result (out.new.tokens ≡ out.old.tokens ++ tokens_of (node_value (node_data node.now))) }
+    ensures fits { OnOk result (FitsNode (node_data node.now)) }
 {
     let lent = LentNode {
         bits: node.bits,
@@ -108,12 +108,12 @@ fn tell_new_node<A: Allocator + Copy>(
         mtime: node.mtime,
         btime: node.btime,
     };
-    tell_lent(digits, &lent, &mut entries_of(&node.content), out)
+    encode_lent(digits, &lent, &mut entries_of(&node.content), out)
 }
 
 /// The content, lent without a directory's names.
 fn view_of(content: &NewContent) -> ContentView<'_>
-    ensures { viewed_content (given_entries (given_content content.now)) result ≡ given_content content.now }
+    ensures { viewed_content (data_entries (content_data content.now)) result ≡ content_data content.now }
 {
     match content {
         NewContent::File(bytes) => ContentView::File(bytes.as_slice()),
@@ -124,7 +124,7 @@ fn view_of(content: &NewContent) -> ContentView<'_>
 
 /// The names of a directory; of what is none there are none.
 fn entries_of(content: &NewContent) -> &[NewEntry]
-    ensures { map pair_of result.now ≡ given_entries (given_content content.now) }
+    ensures { map pair_of result.now ≡ data_entries (content_data content.now) }
 {
     match content {
         NewContent::Dir(entries) => entries.as_slice(),
@@ -132,7 +132,7 @@ fn entries_of(content: &NewContent) -> &[NewEntry]
     }
 }
 
-fn tell_lent<'a, A: Allocator + Copy, N: Names<'a>>(
+fn encode_lent<'a, A: Allocator + Copy, N: Names<'a>>(
     digits: DigitRoom<A>,
     node: &LentNode<'_>,
     names: &mut N,
@@ -140,19 +140,19 @@ fn tell_lent<'a, A: Allocator + Copy, N: Names<'a>>(
 ) -> Result<(), AllocError>
     requires { IsRising (N.left names.old) }
     ensures before { out.new.before ≡ out.old.before }
-    ensures tokens { OnOk result (out.new.tokens ≡ out.old.tokens ++ told (node_value (lent_node (N.left names.old) node.now))) }
+    ensures tokens { OnOk result (out.new.tokens ≡ out.old.tokens ++ tokens_of (node_value (lent_node (N.left names.old) node.now))) }
     ensures fits { OnOk result (FitsNode (lent_node (N.left names.old) node.now)) }
 {
     out.begin_object()?;
     out.key("bits")?;
     out.string(bits_text(node.bits))?;
-    tell_content(digits, &node.content, names, out)?;
+    encode_content(digits, &node.content, names, out)?;
     out.key("times")?;
-    tell_times(digits, node, out)?;
+    encode_times(digits, node, out)?;
     out.end_object()
 }
 
-fn tell_content<'a, A: Allocator + Copy, N: Names<'a>>(
+fn encode_content<'a, A: Allocator + Copy, N: Names<'a>>(
     digits: DigitRoom<A>,
     content: &ContentView<'_>,
     names: &mut N,
@@ -160,17 +160,17 @@ fn tell_content<'a, A: Allocator + Copy, N: Names<'a>>(
 ) -> Result<(), AllocError>
     requires { IsRising (N.left names.old) }
     ensures before { out.new.before ≡ out.old.before }
-    ensures tokens { OnOk result (out.new.tokens ≡ out.old.tokens ++ content_told (viewed_content (N.left names.old) content.now)) }
+    ensures tokens { OnOk result (out.new.tokens ≡ out.old.tokens ++ content_tokens (viewed_content (N.left names.old) content.now)) }
     ensures fits { OnOk result (FitsContent (viewed_content (N.left names.old) content.now)) }
 {
     match content {
         ContentView::File(bytes) => {
             out.key("file")?;
-            tell_bytes(digits, bytes, out)
+            encode_bytes(digits, bytes, out)
         }
         ContentView::Dir => {
             out.key("dir")?;
-            tell_numbers(names, out)
+            encode_numbers(names, out)
         }
         ContentView::Link(text) => {
             out.key("link")?;
@@ -194,27 +194,27 @@ fn bits_text(bits: Bits) -> &'static str
     }
 }
 
-fn tell_times<A: Allocator + Copy>(
+fn encode_times<A: Allocator + Copy>(
     digits: DigitRoom<A>,
     node: &LentNode<'_>,
     out: &mut Writer,
 ) -> Result<(), AllocError>
     ensures before { out.new.before ≡ out.old.before }
-    ensures tokens { OnOk result (out.new.tokens ≡ out.old.tokens ++ told (times_value (lent_node [] node.now))) }
+    ensures tokens { OnOk result (out.new.tokens ≡ out.old.tokens ++ tokens_of (times_value (lent_node [] node.now))) }
     ensures fits { OnOk result (FitsTimes (lent_node [] node.now)) }
 {
     out.begin_array()?;
-    node.atime.tell(digits, out)?;
-    node.mtime.tell(digits, out)?;
-    node.btime.tell(digits, out)?;
+    node.atime.encode_json(digits, out)?;
+    node.mtime.encode_json(digits, out)?;
+    node.btime.encode_json(digits, out)?;
     out.end_array()
 }
 
 // The number of each name, in the order of the names, which is their byte order.
-fn tell_numbers<'a, N: Names<'a>>(names: &mut N, out: &mut Writer) -> Result<(), AllocError>
+fn encode_numbers<'a, N: Names<'a>>(names: &mut N, out: &mut Writer) -> Result<(), AllocError>
     requires { IsRising (N.left names.old) }
     ensures before { out.new.before ≡ out.old.before }
-    ensures tokens { OnOk result (out.new.tokens ≡ out.old.tokens ++ told (object (put_all (N.left names.old) no_members))) }
+    ensures tokens { OnOk result (out.new.tokens ≡ out.old.tokens ++ tokens_of (object (put_all (N.left names.old) no_members))) }
     ensures fits { OnOk result (FitsContent (directory (N.left names.old))) }
 {
     out.begin_object()?;

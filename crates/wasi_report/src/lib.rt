@@ -12,6 +12,6 @@ mod trial;
 
 pub use audit::{PreopenNodes, audit_in};
 pub use guests::{GuestOutcome, guests_in};
-pub use laws::{audits_are_told, guests_are_told, reports_are_told, trials_are_told};
+pub use laws::{audits_are_determined, guests_are_determined, reports_are_determined, trials_are_determined};
 pub use outcome::{Outcome, report, report_in};
 pub use trial::trial_in;

@@ -1,14 +1,14 @@
 //! What a run came to, and its report as a text.
 ghost use Rattle.std.specs.Prelude.{◌≡◌, ◌++◌, IfOk, OnOk, All, map};
 ghost use Rattle.hex.specs.Hex.{IsBytes};
-ghost use Rattle.wasi_tree.specs.Given.{given_of};
+ghost use Rattle.wasi_tree.specs.NodeData.{data_of_node};
 ghost use Rattle.wasi_report.specs.ReadBack.{FitsAnswer, FitsNode, IsOrdered};
 ghost use Rattle.wasi_report.specs.Report.{reported, report_value, report_text, list_value, hex_value, node_value};
-ghost use Rattle.wasi_report.specs.Told.{outcome_told, told, told_at};
+ghost use Rattle.wasi_report.specs.Encoded.{outcome_tokens, tokens_of, member_tokens};
 
-use crate::encode::{DigitRoom, tell_bytes, tell_list_at};
-use crate::encode_answers::tell_answers;
-use crate::encode_nodes::tell_node;
+use crate::encode::{DigitRoom, encode_bytes, encode_list_at};
+use crate::encode_answers::encode_answer_list;
+use crate::encode_nodes::encode_node;
 use json::Writer;
 use std::alloc::{AllocError, Allocator, Global};
 use wasi_guest::Answers;
@@ -28,7 +28,7 @@ pub struct Outcome {
 }
 
 /// The report's text: one object of JSON with no space and with keys in byte order, and a newline. The nodes of the tree
-/// are listed by their numbers. It is a text that tells the report, as `reports_are_told` says.
+/// are listed by their numbers. It is a text that tells the report, as `reports_are_determined` says.
 pub fn report(alloc: Global, outcome: &Outcome, tree: &MemTree) -> Result<Vec<u8>, AllocError>
     ensures text { IfOk result (λ text. text.items ≡ report_text (reported outcome.now tree.now.tree.nodes)) }
     ensures ordered { OnOk result (IsOrdered (reported outcome.now tree.now.tree.nodes)) }
@@ -51,7 +51,7 @@ pub fn report_in<A: Allocator + Copy>(
 {
     buffer.clear();
     let mut out = Writer::new(buffer);
-    tell_outcome(DigitRoom { room, alloc }, outcome, tree, &mut out)?;
+    encode_outcome(DigitRoom { room, alloc }, outcome, tree, &mut out)?;
     let mut text = out.into_inner();
     text.push(b'\n')?;
     Ok(text)
@@ -59,7 +59,7 @@ pub fn report_in<A: Allocator + Copy>(
 
 /// A report, as one object.
 #[tactic(auto, unfolding(crate::specs::ReadBack::IsOrdered))]
-pub fn tell_outcome<A: Allocator + Copy>(
+pub fn encode_outcome<A: Allocator + Copy>(
     digits: DigitRoom<A>,
     outcome: &Outcome,
     tree: &MemTree,
@@ -67,11 +67,11 @@ pub fn tell_outcome<A: Allocator + Copy>(
 ) -> Result<(), AllocError>
     ensures before { out.new.before ≡ out.old.before }
     ensures tokens { OnOk result (out.new.tokens
-        ≡ out.old.tokens ++ told (report_value (reported outcome.now tree.now.tree.nodes))) }
+        ≡ out.old.tokens ++ tokens_of (report_value (reported outcome.now tree.now.tree.nodes))) }
     ensures ordered { OnOk result (IsOrdered (reported outcome.now tree.now.tree.nodes)) }
 {
     out.begin_object()?;
-    tell_outcome_members(
+    encode_outcome_members(
         digits,
         &outcome.answers,
         outcome.shown.as_slice(),
@@ -79,14 +79,14 @@ pub fn tell_outcome<A: Allocator + Copy>(
         outcome.stdout.as_slice(),
         out,
     )?;
-    tell_list_at(digits, "touched", outcome.touched.as_slice(), out)?;
+    encode_list_at(digits, "touched", outcome.touched.as_slice(), out)?;
     out.key("tree")?;
-    tell_tree(digits, tree, out)?;
+    encode_tree(digits, tree, out)?;
     out.end_object()
 }
 
 /// What came of a run or of a guest, as members of an object.
-pub fn tell_outcome_members<A: Allocator + Copy>(
+pub fn encode_outcome_members<A: Allocator + Copy>(
     digits: DigitRoom<A>,
     answers: &Answers,
     shown: &[Vec<u8>],
@@ -96,63 +96,63 @@ pub fn tell_outcome_members<A: Allocator + Copy>(
 ) -> Result<(), AllocError>
     ensures before { out.new.before ≡ out.old.before }
     ensures tokens { OnOk result (out.new.tokens ≡ out.old.tokens
-        ++ outcome_told answers.now.answers (map (λ text. text.items) shown.now) stderr.now stdout.now) }
+        ++ outcome_tokens answers.now.answers (map (λ text. text.items) shown.now) stderr.now stdout.now) }
     ensures answers { OnOk result (All FitsAnswer answers.now.answers) }
     ensures memory { OnOk result (All IsBytes (map (λ text. text.items) shown.now)) }
     ensures stderr { OnOk result (IsBytes stderr.now) }
     ensures stdout { OnOk result (IsBytes stdout.now) }
 {
     out.key("answers")?;
-    tell_answers(digits, answers, out)?;
-    tell_texts_at(digits, "memory", shown, out)?;
-    tell_bytes_at(digits, "stderr", stderr, out)?;
-    tell_bytes_at(digits, "stdout", stdout, out)
+    encode_answer_list(digits, answers, out)?;
+    encode_texts_at(digits, "memory", shown, out)?;
+    encode_bytes_at(digits, "stderr", stderr, out)?;
+    encode_bytes_at(digits, "stdout", stdout, out)
 }
 
-fn tell_bytes_at<A: Allocator + Copy>(
+fn encode_bytes_at<A: Allocator + Copy>(
     digits: DigitRoom<A>,
     name: &str,
     bytes: &[u8],
     out: &mut Writer,
 ) -> Result<(), AllocError>
     ensures before { out.new.before ≡ out.old.before }
-    ensures tokens { OnOk result (out.new.tokens ≡ out.old.tokens ++ told_at name.now (hex_value bytes.now)) }
+    ensures tokens { OnOk result (out.new.tokens ≡ out.old.tokens ++ member_tokens name.now (hex_value bytes.now)) }
     ensures fits { OnOk result (IsBytes bytes.now) }
 {
     out.key(name)?;
-    tell_bytes(digits, bytes, out)
+    encode_bytes(digits, bytes, out)
 }
 
-fn tell_texts_at<A: Allocator + Copy>(
+fn encode_texts_at<A: Allocator + Copy>(
     digits: DigitRoom<A>,
     name: &str,
     texts: &[Vec<u8>],
     out: &mut Writer,
 ) -> Result<(), AllocError>
     ensures before { out.new.before ≡ out.old.before }
-    ensures tokens { OnOk result (out.new.tokens ≡ out.old.tokens ++ told_at name.now (list_value hex_value (map (λ text. text.items) texts.now))) }
+    ensures tokens { OnOk result (out.new.tokens ≡ out.old.tokens ++ member_tokens name.now (list_value hex_value (map (λ text. text.items) texts.now))) }
     ensures fits { OnOk result (All IsBytes (map (λ text. text.items) texts.now)) }
 {
-    tell_list_at(digits, name, texts, out)
+    encode_list_at(digits, name, texts, out)
 }
 
 /// The nodes by their numbers, each as the tree lends it.
-pub fn tell_tree<A: Allocator + Copy>(
+pub fn encode_tree<A: Allocator + Copy>(
     digits: DigitRoom<A>,
     tree: &MemTree,
     out: &mut Writer,
 ) -> Result<(), AllocError>
     ensures before { out.new.before ≡ out.old.before }
     ensures tokens { OnOk result (out.new.tokens
-        ≡ out.old.tokens ++ told (list_value node_value (map given_of tree.now.tree.nodes))) }
-    ensures fits { OnOk result (All FitsNode (map given_of tree.now.tree.nodes)) }
+        ≡ out.old.tokens ++ tokens_of (list_value node_value (map data_of_node tree.now.tree.nodes))) }
+    ensures fits { OnOk result (All FitsNode (map data_of_node tree.now.tree.nodes)) }
 {
     out.begin_array()?;
     for n in 0..tree.next() {
         let Some(node) = tree.node(n) else {
             unreachable!();
         };
-        tell_node(digits, &node, &tree.names(n), out)?;
+        encode_node(digits, &node, &tree.names(n), out)?;
     }
     out.end_array()
 }

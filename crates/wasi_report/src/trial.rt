@@ -1,12 +1,12 @@
 //! A trial as a text: the tree that stays, the nodes that were worked on, and the report.
 ghost use Rattle.std.specs.Prelude.{◌≡◌, ◌++◌, IfOk, OnOk};
 ghost use Rattle.wasi_report.specs.Report.{reported};
-ghost use Rattle.wasi_report.specs.Told.{told};
+ghost use Rattle.wasi_report.specs.Encoded.{tokens_of};
 ghost use Rattle.wasi_report.specs.Trial.{trial_by, trial_text, trial_value};
 ghost use Rattle.wasi_report.specs.TrialReadBack.{FitsTrial};
 
-use crate::encode::{DigitRoom, tell_list_at};
-use crate::outcome::{Outcome, tell_outcome, tell_tree};
+use crate::encode::{DigitRoom, encode_list_at};
+use crate::outcome::{Outcome, encode_outcome, encode_tree};
 use json::Writer;
 use std::alloc::{AllocError, Allocator, Global};
 use wasi_tree::MemTree;
@@ -14,7 +14,7 @@ use wasi_tree::MemTree;
 /// The trial's text: one object of JSON with no space and with keys in byte order, and a newline. It has the nodes of the
 /// tree that stays, the numbers of the nodes that were worked on, and the report as `report_in` writes it. The text is
 /// written in the memory of a buffer, whose bytes are let go, and `room` is for digits as there. It is a text that tells the
-/// trial, as `trials_are_told` says. The only `Err` is want of memory.
+/// trial, as `trials_are_determined` says. The only `Err` is want of memory.
 pub fn trial_in<A: Allocator + Copy>(
     alloc: Global,
     room: A,
@@ -31,7 +31,7 @@ pub fn trial_in<A: Allocator + Copy>(
 {
     buffer.clear();
     let mut out = Writer::new(buffer);
-    tell_trial(
+    encode_trial(
         DigitRoom { room, alloc },
         base,
         kept,
@@ -44,7 +44,7 @@ pub fn trial_in<A: Allocator + Copy>(
     Ok(text)
 }
 
-fn tell_trial<A: Allocator + Copy>(
+fn encode_trial<A: Allocator + Copy>(
     digits: DigitRoom<A>,
     base: &MemTree,
     kept: &[u64],
@@ -54,15 +54,15 @@ fn tell_trial<A: Allocator + Copy>(
 ) -> Result<(), AllocError>
     ensures before { out.new.before ≡ out.old.before }
     ensures tokens { OnOk result (out.new.tokens ≡ out.old.tokens
-        ++ told (trial_value (trial_by base.now.tree.nodes kept.now (reported outcome.now tree.now.tree.nodes)))) }
+        ++ tokens_of (trial_value (trial_by base.now.tree.nodes kept.now (reported outcome.now tree.now.tree.nodes)))) }
     ensures fits { OnOk result (FitsTrial
         (trial_by base.now.tree.nodes kept.now (reported outcome.now tree.now.tree.nodes))) }
 {
     out.begin_object()?;
     out.key("base")?;
-    tell_tree(digits, base, out)?;
-    tell_list_at(digits, "kept", kept, out)?;
+    encode_tree(digits, base, out)?;
+    encode_list_at(digits, "kept", kept, out)?;
     out.key("report")?;
-    tell_outcome(digits, outcome, tree, out)?;
+    encode_outcome(digits, outcome, tree, out)?;
     out.end_object()
 }

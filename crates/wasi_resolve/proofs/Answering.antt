@@ -7,8 +7,8 @@ use Rattle.wasi_host.specs.Options.{Options}
 use Rattle.wasi_host.specs.Tree.{Tree}
 use Rattle.wasi_host.specs.Steps.{◌>>=◌}
 use Rattle.wasi_host.specs.Answer.{metadata_of}
-use Rattle.wasi_host.specs.Lineage.{HasProvenance, Only}
-use Rattle.wasi_host.specs.HostLaws.{World, Handles, MeansErr}
+use Rattle.wasi_host.specs.Provenance.{HasProvenance, Only}
+use Rattle.wasi_host.specs.HostLaws.{HostModel, Handles, MeansErr}
 use Rattle.wasi_host.proofs.Tracing.{traced_given}
 use Rattle.wasi_host.specs.declared.errors.ErrorCode.{ErrorCode}
 use Rattle.wasi_host.specs.declared.errors.ErrorCode.TheVariants.{Io}
@@ -24,7 +24,7 @@ use Rattle.wasi_resolve.specs.Resolved.{Meant, Resolved, TreeAfter}
 use Rattle.wasi_resolve.specs.Meanings.{follows, opens_at, looks_at}
 use Rattle.wasi_resolve.specs.Stack.{Stands, Among}
 use Rattle.wasi_resolve.specs.Finding.{handle_found, LiveWith, StandsWith}
-use Rattle.wasi_resolve.specs.WalkSteps.{WorldStays, Sight, HandleFor, Seen, meant_at, shown_found}
+use Rattle.wasi_resolve.specs.WalkSteps.{ModelStays, Sight, HandleFor, Seen, meant_at, shown_found}
 use Rattle.wasi_resolve.specs.declared.found.Found.{Found}
 use Rattle.wasi_resolve.specs.declared.found.Found.TheVariants as found
 use Rattle.wasi_host.proofs.Touching.{none_in}
@@ -48,14 +48,14 @@ pub live_after : (first now new : Handles) (start : ℕ) (stack : List ℕ) (got
 live_after first now new start stack (Some h) stands is = (stands.0, is)
 live_after first now new start stack None stands is = is
 
-less : {first all : Handles} {u z : World} → ((q : ℕ) → contains first q ≡ true → contains all q ≡ true)
-    → WorldStays all u z
-    → WorldStays first u z
+less : {first all : Handles} {u z : HostModel} → ((q : ℕ) → contains first q ≡ true → contains all q ≡ true)
+    → ModelStays all u z
+    → ModelStays first u z
 less within stayed =
     record { tree = stayed.tree; touched = stayed.touched; keeps = λ q is. stayed.keeps q (within q is) }
 
 -- the same is shown, since a new handle stays live
-reshown : {live : Handles} {w u : World} {m : Meant Sight} {shown shown' : Found → Sight} {it : Found}
+reshown : {live : Handles} {w u : HostModel} {m : Meant Sight} {shown shown' : Found → Sight} {it : Found}
     → shown it ≡ shown' it
     → Resolved live w u m shown (Ok it) → Resolved live w u m shown' (Ok it)
 reshown same resolved = record {
@@ -65,8 +65,8 @@ reshown same resolved = record {
   keeps = resolved.keeps;
 }
 
-pub closed_resolved : {first : Handles} {w u z : World} {m : Meant Sight} (r : Result Found HostError)
-    → Resolved first w u m (shown_found u.held) r → WorldStays (with_got first (handle_found r)) u z
+pub closed_resolved : {first : Handles} {w u z : HostModel} {m : Meant Sight} (r : Result Found HostError)
+    → Resolved first w u m (shown_found u.held) r → ModelStays (with_got first (handle_found r)) u z
     → Resolved first w z m (shown_found z.held) r
 closed_resolved {first} {u = u} {z = z} (Ok (found.Handle h)) resolved stayed =
     reshown (ap HandleFor (sym (stayed.keeps h (grind (arith, members, nat_tests)))))
@@ -113,7 +113,7 @@ still_tree A A' f t stepped t' r (Code Io) after = elim after [ inl same ↦ inl
 still_tree A A' f t stepped t' r (Code code) after = after
 
 unmapped_ok : {A A' B B' : Type 0} (f : B → B') (one : (x y : B) → f x ≡ f y
-    → x ≡ y) {live : Handles} {w u : World} (m : Meant B)
+    → x ≡ y) {live : Handles} {w u : HostModel} (m : Meant B)
     (shown : A → B) {shown' : A' → B'} {a' : A'} (a : A) → shown' a' ≡ f (shown a)
     → Resolved live w u (mapped f m) shown' (Ok a')
     → Resolved live w u m shown (Ok a)
@@ -124,7 +124,7 @@ unmapped_ok {B' = B'} f one m shown a same resolved = record {
   keeps = resolved.keeps;
 }
 
-unmapped_err : {A A' B B' : Type 0} (f : B → B') {live : Handles} {w u : World} (m : Meant B) (shown : A
+unmapped_err : {A A' B B' : Type 0} (f : B → B') {live : Handles} {w u : HostModel} (m : Meant B) (shown : A
     → B) {shown' : A' → B'}
     (e : HostError) → Resolved live w u (mapped f m) shown' (Err e)
     → Resolved live w u m shown (Err e)
@@ -147,7 +147,7 @@ open_is : (t : Tree) (s : ℕ) (text : List ℕ) (o : Options)
 unfolding opening
 open_is t s text o = refl
 
-module _ {live : Handles} {w u : World} (s : ℕ) (text : List ℕ) (o : Options) where
+module _ {live : Handles} {w u : HostModel} (s : ℕ) (text : List ℕ) (o : Options) where
   pub opened_ok : (h : ℕ)
       → Resolved live w u (meant_at w.tree (Open o) s (walk w.tree s text (Open o) (follows o.follow)).outcome)
       (shown_found u.held) (Ok (found.Handle h))
@@ -177,7 +177,7 @@ look_is t s text follow =
     ap (λ a. let m : Meant Sight = record (mapped Seen (looks_at t s text follow)) { answer = a } in m)
     (seen_twice t (looked t s text (follows follow)))
 
-module _ {live : Handles} {w u : World} (s : ℕ) (text : List ℕ) (follow : FollowSymlinks) where
+module _ {live : Handles} {w u : HostModel} (s : ℕ) (text : List ℕ) (follow : FollowSymlinks) where
   pub seen_ok : (m : Metadata)
       → Resolved live w u (meant_at w.tree Look s (walk w.tree s text Look (follows follow)).outcome)
       (shown_found u.held) (Ok (found.Metadata m))

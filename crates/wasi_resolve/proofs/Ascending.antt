@@ -4,7 +4,7 @@ use Rattle.std.specs.FinSet.{contains, remove}
 use Rattle.std.proofs.lemmas.List.Elements.{All-nil}
 use Rattle.wasi_host.specs.HostCall.{Access, Close}
 use Rattle.wasi_host.specs.Answer.{access_answer}
-use Rattle.wasi_host.specs.HostLaws.{World, Handles, Told, MeansErr, hosted, answered}
+use Rattle.wasi_host.specs.HostLaws.{HostModel, Handles, RefinesCall, MeansErr, hosted, answered}
 use Rattle.wasi_host.specs.declared.errors.ErrorCode.{ErrorCode}
 use Rattle.wasi_host.specs.declared.errors.ErrorCode.TheVariants.{Io, NotPermitted}
 use Rattle.wasi_host.specs.declared.errors.HostError.{HostError}
@@ -22,31 +22,31 @@ no_items [] is = refl
 no_items (h ∷ items) is = absurd (omega arith)
 
 -- a part at which the walk fails at once
-pub fails_here : {b : Begin} {v u : World} {before after : List ℕ} {e : HostError} (part : Component)
+pub fails_here : {b : Begin} {v u : HostModel} {before after : List ℕ} {e : HostError} (part : Component)
     (rest : List Component)
-    → OnlyLooks b.live b.world u (origin b ∷ [])
-    → IsFault e ⊎ IsRefused b.world.tree (origin b) (part ∷ rest) (nodes_under v.held before) e
+    → OnlyLooks b.live b.model u (origin b ∷ [])
+    → IsFault e ⊎ IsRefused b.model.tree (origin b) (part ∷ rest) (nodes_under v.held before) e
     → Fails b (way v before (part ∷ rest)) (way u after rest) e
 fails_here {b} {v = v} {before = before} part rest looks refused = record {
   looks = looks;
   part = part;
   nodes = nodes_under v.held before;
-  same = same_here b.world.tree (origin b) (part ∷ rest) (nodes_under v.held before);
+  same = same_here b.model.tree (origin b) (part ∷ rest) (nodes_under v.held before);
   refused = refused;
 }
 
 -- there is nothing to leave
-pub leaves_top : {first : Handles} {w v : World} {start : ℕ} {stack after : List ℕ} (rest : List Component)
+pub leaves_top : {first : Handles} {w v : HostModel} {start : ℕ} {stack after : List ℕ} (rest : List Component)
     → length stack ≡ 0 → Walked first w v start stack
     → Fails (begin first w start) (way v stack (ParentDir ∷ rest)) (way v after rest) (Code NotPermitted)
 leaves_top {w = w} {v = v} {start = start} {stack = stack} rest none walked =
     fails_here ParentDir rest walked.looks (inr (top_refused w.tree (w.held start).node rest (ap
     (nodes_under v.held) (no_items stack none))))
 
-module _ {first old mid new : Handles} {w v a z : World} {start : ℕ} {stack : List ℕ} (under : List ℕ) (here : ℕ)
+module _ {first old mid new : Handles} {w v a z : HostModel} {start : ℕ} {stack : List ℕ} (under : List ℕ) (here : ℕ)
     (rest : List Component) (stands : Stands first old start stack) (popped : stack ≡ under ++ here ∷ [])
     (still : mid ≡ old)
-    (closed : new ≡ remove mid here) (walked : Walked first w v start stack) (shut : Told mid new a z Close
+    (closed : new ≡ remove mid here) (walked : Walked first w v start stack) (shut : RefinesCall mid new a z Close
     (λ x. x) answered) where
   nodes_are : nodes_under v.held stack ≡ (v.held here).node ∷ nodes_under v.held under
   nodes_are = ap (nodes_under v.held) popped ∙ nodes_push v.held under here
@@ -62,7 +62,7 @@ module _ {first old mid new : Handles} {w v a z : World} {start : ℕ} {stack : 
       looks_stay (looks_then walked.looks near.0 (first_live stands) looks)
       (close_stays shut (λ q is. (same_live still q (first_live stands q is), first_live under_stands q is)))
 
-  module _ (asked : Told old mid v a (Access (v.held here).node) (λ u. u) (hosted (Ok tt))) where
+  module _ (asked : RefinesCall old mid v a (Access (v.held here).node) (λ u. u) (hosted (Ok tt))) where
     kept : nodes_under z.held under ≡ nodes_under v.held under
     kept = nodes_kept under_stands (λ q is.
         let between : contains mid q ≡ true = was_live mid here closed q is in
@@ -91,7 +91,7 @@ module _ {first old mid new : Handles} {w v a z : World} {start : ℕ} {stack : 
       inr (up_refused w.tree (w.held start).node rest (v.held here).node
       (nodes_under v.held under) code nodes_are means)
 
-  pub leaves_err : (code : ErrorCode) → Told old mid v a (Access (v.held here).node) (λ u. u) (hosted (Err code))
+  pub leaves_err : (code : ErrorCode) → RefinesCall old mid v a (Access (v.held here).node) (λ u. u) (hosted (Err code))
       → Fails (begin first w start) (way v stack (ParentDir ∷ rest)) (way z under rest) (Code code)
   leaves_err code asked =
       fails_here ParentDir rest

@@ -1,7 +1,7 @@
 -- The whole walk: a link in each turn, and then its end.
 use Rattle.std.proofs.Common.{◌≡◌, ℕ, zero, suc, ◌+◌, ◌*◌, ◌≤◌, Bool, true, false, cond, ◌||◌, List, [], ◌∷◌, ◌++◌, length, Result, Err, refl, sym, ap, subst, ◌∙◌, arith}
 use Rattle.wasi_host.specs.Tree.{Tree}
-use Rattle.wasi_host.specs.HostLaws.{World, Handles}
+use Rattle.wasi_host.specs.HostLaws.{HostModel, Handles}
 use Rattle.wasi_host.specs.declared.errors.ErrorCode.TheVariants.{Loop, NoEntry}
 use Rattle.wasi_host.specs.declared.errors.HostError.{HostError}
 use Rattle.wasi_host.specs.declared.errors.HostError.TheVariants.{Code}
@@ -140,14 +140,14 @@ walk_empty t s text aim follow none =
 -- how far the walk has come: with so many links that may still be read, it ends as the whole does
 pub record SoFar (b : Begin) (k : Course) (a : Way) (links : ℕ) (slash : Bool) (c : Way)
     (old now : List Lookup) : Type 0 where
-  pub walked : Walked b.live b.world c.world b.start c.stack
+  pub walked : Walked b.live b.model c.model b.start c.stack
   pub taken : ℕ
   pub read : ℕ
   pub same : SameEnd read (whole_from b k a)
-      (walk_nodes b.world.tree (origin b) k.aim k.follow links slash taken c.left (way_nodes c))
+      (walk_nodes b.model.tree (origin b) k.aim k.follow links slash taken c.left (way_nodes c))
   pub few : length now ≤ length old + taken + 2 * read
 
-pub so_starts : {first : Handles} {w v : World} {start : ℕ} {stack : List ℕ} (k : Course) (parts : List Component)
+pub so_starts : {first : Handles} {w v : HostModel} {start : ℕ} {stack : List ℕ} (k : Course) (parts : List Component)
     (old : List Lookup) → Walked first w v start stack
     → SoFar (begin first w start) k (way v stack parts) 40 k.slash (way v stack parts) old old
 unfolding whole_walk
@@ -165,7 +165,7 @@ with_slash k slash = record k { slash = slash }
 
 -- the walk from here, with so many links that may still be read
 abbrev rest_of : Begin → Course → Way → ℕ → ℕ → Walk
-rest_of b k c links m = walk_nodes b.world.tree (origin b) k.aim k.follow links k.slash m c.left (way_nodes c)
+rest_of b k c links m = walk_nodes b.model.tree (origin b) k.aim k.follow links k.slash m c.left (way_nodes c)
 
 module _ {b : Begin} {k : Course} {a c : Way} {slash_now : Bool} {old mid : List Lookup} where
   pub so_turns : {now : ℕ} (links : ℕ) {d : Way} {new : List Lookup} {slash' : Bool}
@@ -173,14 +173,14 @@ module _ {b : Begin} {k : Course} {a c : Way} {slash_now : Bool} {old mid : List
       → LinkPast b (with_slash k slash_now) so.taken c d mid new slash' → SoFar b k a links slash' d old new
   so_turns links {d} {new} {slash'} so at past =
       let turned =
-      walk_turned b.world.tree (origin b) k.aim k.follow links slash_now so.taken past.taken c.left past.behind
+      walk_turned b.model.tree (origin b) k.aim k.follow links slash_now so.taken past.taken c.left past.behind
       (way_nodes c) (way_nodes d) past.text past.linked in
-      let same : walk_nodes b.world.tree (origin b) k.aim k.follow links
+      let same : walk_nodes b.model.tree (origin b) k.aim k.follow links
       (slash_now || adds_slash past.text past.behind) past.taken (texts.parts past.text ++ past.behind) (way_nodes d)
-      ≡ walk_nodes b.world.tree (origin b) k.aim k.follow links slash' past.taken d.left (way_nodes d) =
-      ap (λ x. walk_nodes b.world.tree (origin b) k.aim k.follow links x past.taken
+      ≡ walk_nodes b.model.tree (origin b) k.aim k.follow links slash' past.taken d.left (way_nodes d) =
+      ap (λ x. walk_nodes b.model.tree (origin b) k.aim k.follow links x past.taken
       (texts.parts past.text ++ past.behind) (way_nodes d)) (sym past.now)
-      ∙ ap (λ l. walk_nodes b.world.tree (origin b) k.aim k.follow links slash' past.taken l (way_nodes d)) (sym past.put) in
+      ∙ ap (λ l. walk_nodes b.model.tree (origin b) k.aim k.follow links slash' past.taken l (way_nodes d)) (sym past.put) in
       record {
         walked = past.walked;
         taken = past.taken;
@@ -200,11 +200,11 @@ module _ {b : Begin} {k : Course} {a c : Way} {slash_now : Bool} {old mid : List
       (so : SoFar b k a links slash_now c old mid) → EndsPast b (with_slash k slash_now) so.taken c d mid new r → Comes b k a d old new r
   so_ends {links} {d} r so ends =
       let is =
-      walk_ended b.world.tree (origin b) k.aim k.follow links slash_now so.taken ends.taken c.left
+      walk_ended b.model.tree (origin b) k.aim k.follow links slash_now so.taken ends.taken c.left
       (way_nodes c) ends.outcome ends.ends in
       record {
         resolved =
-            subst (λ o. Resolved b.live b.world d.world (meant_at b.world.tree k.aim (origin b) o) (shown_found d.world.held) r)
+            subst (λ o. Resolved b.live b.model d.model (meant_at b.model.tree k.aim (origin b) o) (shown_found d.model.held) r)
             (sym (so.same.outcome ∙ ap (λ x. x.outcome) is)) ends.resolved;
         bound =
             let number = so.same.parts ∙ ap (λ x. x.parts) is in
@@ -219,7 +219,7 @@ module _ {b : Begin} {k : Course} {a c : Way} {slash_now : Bool} {old mid : List
     resolved = fault_resolved k.aim _ fails.fault fails.looks;
     bound =
         let here = ap (λ n. walk_looks (rest_of b (with_slash k slash_now) c n so.taken)) at in
-        let most = looks_within b.world.tree (origin b) k.aim k.follow links slash_now so.taken c.left (way_nodes c) in
+        let most = looks_within b.model.tree (origin b) k.aim k.follow links slash_now so.taken c.left (way_nodes c) in
         omega (arith, so.same.parts, so.same.links, here, so.few, fails.few, most);
   }
 
@@ -232,7 +232,7 @@ module _ {b : Begin} {k : Course} {a c : Way} {slash_now : Bool} {old mid : List
     resolved = fault_resolved k.aim _ fails.fault fails.looks;
     bound =
         let here = ap (λ n. (rest_of b (with_slash k slash_now) c n so.taken).parts) at in
-        let most = last_parts b.world.tree (origin b) k.aim k.follow slash_now so.taken c.left (way_nodes c) in
+        let most = last_parts b.model.tree (origin b) k.aim k.follow slash_now so.taken c.left (way_nodes c) in
         omega (arith, so.same.parts, so.same.links, here, so.few, few, most);
   }
 
@@ -244,11 +244,11 @@ module _ {b : Begin} {k : Course} {a c : Way} {slash_now : Bool} {old mid : List
   so_loops {d = d} so at link few =
       let is =
       ap (λ n. rest_of b (with_slash k slash_now) c n so.taken) at
-      ∙ walk_looped b.world.tree (origin b) k.aim k.follow slash_now so.taken link.taken c.left d.left
+      ∙ walk_looped b.model.tree (origin b) k.aim k.follow slash_now so.taken link.taken c.left d.left
       (way_nodes c) (way_nodes d) _ link.linked in
       record {
         resolved =
-            subst (λ o. Resolved b.live b.world d.world (meant_at b.world.tree k.aim (origin b) o) (shown_found d.world.held) (Err
+            subst (λ o. Resolved b.live b.model d.model (meant_at b.model.tree k.aim (origin b) o) (shown_found d.model.held) (Err
             (Code Loop)))
             (sym (so.same.outcome ∙ ap (λ x. x.outcome) is)) (stop_resolved k.aim Loop refl link.walked.looks);
         bound =
@@ -259,12 +259,12 @@ module _ {b : Begin} {k : Course} {a c : Way} {slash_now : Bool} {old mid : List
 -- ---- the walk of a text
 
 -- it starts with an empty stack
-pub walks_start : {live : Handles} {w : World} {start : ℕ} {items : List ℕ} → items ≡ [] → Walked live w w start items
+pub walks_start : {live : Handles} {w : HostModel} {start : ℕ} {items : List ℕ} → items ≡ [] → Walked live w w start items
 walks_start {live} {w} {start} none =
     subst (Walked live w w start) (sym none) (record { looks = looks_none live w ((w.held start).node ∷ []); near = tt })
 
 -- and ends as the walk of the text
-module _ {live : Handles} {w : World} {start : ℕ} {aim : Aim} {follow : Bool} (text : List ℕ) {parts : List Component}
+module _ {live : Handles} {w : HostModel} {start : ℕ} {aim : Aim} {follow : Bool} (text : List ℕ) {parts : List Component}
     {items : List ℕ} {d : Way} {old new : List Lookup} {r : Result Found HostError} (some : is_empty text ≡ false)
     (parts_are : parts ≡ texts.parts text) (none : items ≡ [])
     (comes : Comes (begin live w start) (record { aim = aim; follow = follow; slash = trailing_slash text })
@@ -278,11 +278,11 @@ module _ {live : Handles} {w : World} {start : ℕ} {aim : Aim} {follow : Bool} 
       (nodes_under w.held l)) none
       ∙ sym (walk_whole w.tree (w.held start).node text aim follow some)
 
-  pub comes_resolved : Resolved live w d.world (meant_at w.tree aim (w.held start).node (walk w.tree
-      (w.held start).node text aim follow).outcome) (shown_found d.world.held) r
+  pub comes_resolved : Resolved live w d.model (meant_at w.tree aim (w.held start).node (walk w.tree
+      (w.held start).node text aim follow).outcome) (shown_found d.model.held) r
   comes_resolved =
-      subst (λ x. Resolved live w d.world (meant_at w.tree aim (w.held start).node x.outcome)
-      (shown_found d.world.held) r) whole_is comes.resolved
+      subst (λ x. Resolved live w d.model (meant_at w.tree aim (w.held start).node x.outcome)
+      (shown_found d.model.held) r) whole_is comes.resolved
 
   pub comes_bound : length new ≤ length old + walk_looks (walk w.tree (w.held start).node text aim follow)
   comes_bound = subst (λ x. length new ≤ length old + walk_looks x) whole_is comes.bound

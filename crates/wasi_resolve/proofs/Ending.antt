@@ -11,7 +11,7 @@ use Rattle.wasi_host.specs.HostCall.{OpenAt, StatAt, Access, Stat}
 use Rattle.wasi_host.specs.Refusal.{refusal, holds}
 use Rattle.wasi_host.specs.Steps.{◌>>=◌}
 use Rattle.wasi_host.specs.Answer.{unless, reached, stat_at_answer, stat_answer, access_answer, metadata_of}
-use Rattle.wasi_host.specs.HostLaws.{World, Handles, Told, MeansErr, hosted}
+use Rattle.wasi_host.specs.HostLaws.{HostModel, Handles, RefinesCall, MeansErr, hosted}
 use Rattle.wasi_host.proofs.Chain.{free}
 use Rattle.wasi_host.specs.declared.errors.ErrorCode.{ErrorCode}
 use Rattle.wasi_host.specs.declared.errors.ErrorCode.TheVariants.{Io, IsDirectory, NotDirectory}
@@ -59,7 +59,7 @@ tree_mapped A A' f t stepped t' meant Memory after = after
 tree_mapped A A' f t stepped t' meant (Code Io) after = elim after [ inl still ↦ inl still | inr made ↦ inr (ok_mapped f meant made.0, made.1) ]
 tree_mapped A A' f t stepped t' meant (Code code) after = after
 
-module _ {A A' B B' : Type 0} (f : B → B') {live : Handles} {w u : World} {m : Meant B} {shown : A
+module _ {A A' B B' : Type 0} (f : B → B') {live : Handles} {w u : HostModel} {m : Meant B} {shown : A
     → B} (shown' : A' → B') where
   pub mapped_ok : {a : A} (a' : A') → shown' a' ≡ f (shown a) → Resolved live w u m shown (Ok a)
       → Resolved live w u (mapped f m) shown' (Ok a')
@@ -86,7 +86,7 @@ as_reach name (Ok (Some h)) = Ok (reach.Found (found.Handle h))
 as_reach name (Ok None) = Ok (reach.Link name)
 as_reach name (Err e) = Err e
 
-pub last_opened : (live : Handles) (w u : World) (d : ℕ) (name : NameLeft) (o : Options) (follow slash : Bool)
+pub last_opened : (live : Handles) (w u : HostModel) (d : ℕ) (name : NameLeft) (o : Options) (follow slash : Bool)
     (r : Result (Option ℕ) HostError)
     → Enters live w u d name.text.now (last_options o slash) (follow || slash) r
     → EndsAtName live w u d (record { aim = Open o; follow = follow; slash = slash }) name.text.now
@@ -114,16 +114,16 @@ last_opened live w u d name o follow slash (Err e) fails = elim fails [
 abbrev for_look : Bool → Bool → Course
 for_look follow slash = record { aim = Look; follow = follow; slash = slash }
 
-module _ {old new : Handles} {w u : World} {d : ℕ} {name : List ℕ} (follow slash : Bool) (plain : IsTrue
+module _ {old new : Handles} {w u : HostModel} {d : ℕ} {name : List ℕ} (follow slash : Bool) (plain : IsTrue
     (is_plain name))
     (same : new ≡ old) where
   -- it is refused
-  pub last_unseen : (e : HostError) → Told {A = Metadata} old new w u (StatAt d name) (λ m. m) (Err e)
+  pub last_unseen : (e : HostError) → RefinesCall {A = Metadata} old new w u (StatAt d name) (λ m. m) (Err e)
       → (OnlyLooks old w u (d ∷ []) × IsFault e) ⊎ EndsUnread old w u d (for_look follow slash) name (Err e)
-  last_unseen e told = by e told.meaning
+  last_unseen e modelled = by e modelled.meaning
     where
       seen : OnlyLooks old w u (d ∷ [])
-      seen = looks_of (Err e) (λ is. refl) (call_err {call = StatAt d name} e [] same told)
+      seen = looks_of (Err e) (λ is. refl) (call_err {call = StatAt d name} e [] same modelled)
 
       by : (x : HostError) → MeansErr (stat_at_answer w.tree d name) x
           → (OnlyLooks old w u (d ∷ []) × IsFault x) ⊎ EndsUnread old w u d (for_look follow slash) name (Err x)
@@ -136,12 +136,12 @@ module _ {old new : Handles} {w u : World} {d : ℕ} {name : List ℕ} (follow s
             (Seen (metadata_of w.tree n)))) (unless-err (refusal w.tree (StatAt d name)) _ means))) seen;
       })
 
-  module _ {m : Metadata} (told : Told {A = Metadata} old new w u (StatAt d name) (λ x. x) (Ok m)) where
+  module _ {m : Metadata} (modelled : RefinesCall {A = Metadata} old new w u (StatAt d name) (λ x. x) (Ok m)) where
     none : refusal w.tree (StatAt d name) ≡ None
-    none = looked_free w.tree d name m told.meaning
+    none = looked_free w.tree d name m modelled.meaning
 
     held : holds w.tree d name (λ n. is_link n.content) ≡ is_link_kind m.kind
-    held = looked_link w.tree d name m told.meaning
+    held = looked_link w.tree d name m modelled.meaning
 
     test : is_to_be_read w.tree Look follow slash true d name ≡ (is_link_kind m.kind && (follow || slash))
     test = look_to_read w.tree follow slash d name none ∙ ap (λ b. b && (follow || slash)) held
@@ -154,7 +154,7 @@ module _ {old new : Handles} {w u : World} {d : ℕ} {name : List ℕ} (follow s
     resolved =
         call_ok {call =
         StatAt d name} (reached w.tree d name ∷ []) (name_ends w.tree d child_is.0 name child_is.1)
-        (same_live same) told
+        (same_live same) modelled
 
     seen : OnlyLooks old w u (d ∷ [])
     seen = looks_of (Ok m) (λ is. refl) resolved
@@ -168,7 +168,7 @@ module _ {old new : Handles} {w u : World} {d : ℕ} {name : List ℕ} (follow s
     slash_test b is =
         by_slash
         ∙ ap (λ x. cond x (let r : Result ℕ ErrorCode = Err NotDirectory in r) (Ok (reached w.tree d name)))
-        (ap (λ x. slash && not x) (looked_directory w.tree d name m told.meaning) ∙ is)
+        (ap (λ x. slash && not x) (looked_directory w.tree d name m modelled.meaning) ∙ is)
 
     -- a link that is to be read
     pub last_link : (found_name : List ℕ) → found_name ≡ name → (is_link_kind m.kind && (follow || slash)) ≡ true
@@ -201,7 +201,7 @@ module _ {old new : Handles} {w u : World} {d : ℕ} {name : List ℕ} (follow s
       unread = test ∙ unread;
       resolved = record {
         answer = ap (λ r. r >>= (λ n. Ok (Seen (metadata_of w.tree n)))) (slash_test false wants)
-            ∙ ap (λ x. let r : Result Sight ErrorCode = Ok (Seen x) in r) (looked_is w.tree d name m told.meaning);
+            ∙ ap (λ x. let r : Result Sight ErrorCode = Ok (Seen x) in r) (looked_is w.tree d name m modelled.meaning);
         tree = seen.tree;
         touched =
             subst (λ r. Touches w.tree u.tree (d ∷ []) (ends_by (λ n. n) r) w.touched u.touched) (sym
@@ -225,7 +225,7 @@ dot_meant t d o writes = record {
 }
 
 -- an open for writing
-pub dot_written : {live : Handles} {w : World} {d : ℕ} (o : Options) → o.write ≡ true → OnlyLooks live w w (d ∷ [])
+pub dot_written : {live : Handles} {w : HostModel} {d : ℕ} (o : Options) → o.write ≡ true → OnlyLooks live w w (d ∷ [])
     → EndsInDirectory live w w d (Open o) (Err (Code IsDirectory))
 dot_written {w = w} {d = d} o is looks =
     resolved_err (meant_at w.tree (Open o) d (Dot d)) (shown_found w.held) (Code IsDirectory) refl
@@ -235,24 +235,24 @@ read_meant : (t : Tree) (d : ℕ) (o : Options) → o.write ≡ false
     → mapped HandleFor (open_meant t d (codes ".") o) ≡ meant_at t (Open o) d (Dot d)
 read_meant t d o is = ap (dot_meant t d o) (sym is)
 
-module _ {w : World} {d : ℕ} {o : Options} (is : o.write ≡ false) where
-  pub dot_opened : {old new : Handles} {u : World} {h : ℕ} → new ≡ insert old h
-      → Told {A = ℕ} old new w u (OpenAt d (codes ".") o) u.held (Ok h)
+module _ {w : HostModel} {d : ℕ} {o : Options} (is : o.write ≡ false) where
+  pub dot_opened : {old new : Handles} {u : HostModel} {h : ℕ} → new ≡ insert old h
+      → RefinesCall {A = ℕ} old new w u (OpenAt d (codes ".") o) u.held (Ok h)
       → EndsInDirectory old w u d (Open o) (Ok (found.Handle h))
-  dot_opened {old} {u = u} {h = h} got told =
+  dot_opened {old} {u = u} {h = h} got modelled =
       subst (λ m. Resolved old w u m (shown_found u.held) (Ok (found.Handle h))) (read_meant w.tree d o is)
       (mapped_ok HandleFor (shown_found u.held) (found.Handle h) refl
       (call_ok {call =
       OpenAt d (codes ".") o} {shown = u.held} (reached w.tree d (codes ".") ∷ []) (open_ends w.tree d
-      (codes ".") o) (still_live old h got) told))
+      (codes ".") o) (still_live old h got) modelled))
 
-  pub dot_refused : {old new : Handles} {u : World} (e : HostError) → new ≡ old
-      → Told {A = ℕ} old new w u (OpenAt d (codes ".") o) u.held (Err e)
+  pub dot_refused : {old new : Handles} {u : HostModel} (e : HostError) → new ≡ old
+      → RefinesCall {A = ℕ} old new w u (OpenAt d (codes ".") o) u.held (Err e)
       → EndsInDirectory old w u d (Open o) (Err e)
-  dot_refused {old} {u = u} e same told =
+  dot_refused {old} {u = u} e same modelled =
       subst (λ m. Resolved old w u m (shown_found u.held) (Err e)) (read_meant w.tree d o is)
       (mapped_err HandleFor (shown_found u.held) e
-      (call_err {call = OpenAt d (codes ".") o} {shown = u.held} e (reached w.tree d (codes ".") ∷ []) same told))
+      (call_err {call = OpenAt d (codes ".") o} {shown = u.held} e (reached w.tree d (codes ".") ∷ []) same modelled))
 
 stat_gives : (t : Tree) (n : ℕ) (m : Metadata) → stat_answer t n ≡ Ok m → metadata_of t n ≡ m
 unfolding refusal
@@ -269,12 +269,12 @@ dot_means : (t : Tree) (d : ℕ) (r : Option ErrorCode) → refusal t (Access d)
 dot_means t d None is = ap (λ r. unless r d >>= (λ n. Ok (Seen (metadata_of t n)))) is
 dot_means t d (Some code) is = ap (λ r. unless r d >>= (λ n. Ok (Seen (metadata_of t n)))) is
 
-module _ {old mid : Handles} {w v : World} {d : ℕ} (same : mid ≡ old) where
-  pub dot_denied : (code : ErrorCode) → Told {A = Unit {0}} old mid w v (Access d) (λ x. x) (hosted (Err code))
+module _ {old mid : Handles} {w v : HostModel} {d : ℕ} (same : mid ≡ old) where
+  pub dot_denied : (code : ErrorCode) → RefinesCall {A = Unit {0}} old mid w v (Access d) (λ x. x) (hosted (Err code))
       → EndsInDirectory old w v d Look (Err (Code code))
-  dot_denied code told =
-      resolved_err (meant_at w.tree Look d (Dot d)) (shown_found v.held) (Code code) refl (by code told.meaning)
-      (looks_of (Err (Code code)) (λ is. refl) (call_err {call = Access d} (Code code) [] same told))
+  dot_denied code modelled =
+      resolved_err (meant_at w.tree Look d (Dot d)) (shown_found v.held) (Code code) refl (by code modelled.meaning)
+      (looks_of (Err (Code code)) (λ is. refl) (call_err {call = Access d} (Code code) [] same modelled))
     where
       by : (c : ErrorCode) → MeansErr (access_answer w.tree d) (Code c)
           → MeansErr (meant_at w.tree Look d (Dot d)).answer (Code c)
@@ -282,20 +282,20 @@ module _ {old mid : Handles} {w v : World} {d : ℕ} (same : mid ≡ old) where
       by c means = dot_means w.tree d (Some c) (unless-err _ _ means)
 
   module _ {new : Handles} (here : ℕ) (at : (w.held here).node ≡ d) (live : contains old here ≡ true)
-      (still : new ≡ mid) (told : Told {A = Unit {0}} old mid w v (Access d) (λ x. x) (hosted (Ok tt))) where
+      (still : new ≡ mid) (modelled : RefinesCall {A = Unit {0}} old mid w v (Access d) (λ x. x) (hosted (Ok tt))) where
     abbrev e : ℕ
     e = (v.held here).node
 
     first : OnlyLooks old w v (d ∷ [])
-    first = looks_of (Ok tt) (λ is. refl) (call_ok {call = Access d} [] (All-nil _) (same_live same) told)
+    first = looks_of (Ok tt) (λ is. refl) (call_ok {call = Access d} [] (All-nil _) (same_live same) modelled)
 
     node_same : e ≡ d
     node_same = ap (λ (h : OpenHandle). h.node) (first.keeps here live) ∙ at
 
     free_is : (meant_at w.tree Look d (Dot d)).answer ≡ Ok (Seen (metadata_of w.tree d))
-    free_is = dot_means w.tree d None (free _ _ _ told.meaning)
+    free_is = dot_means w.tree d None (free _ _ _ modelled.meaning)
 
-    pub dot_seen : {u : World} {m : Metadata} → Told {A = Metadata} mid new v u (Stat e) (λ x. x) (hosted (Ok m))
+    pub dot_seen : {u : HostModel} {m : Metadata} → RefinesCall {A = Metadata} mid new v u (Stat e) (λ x. x) (hosted (Ok m))
         → EndsInDirectory old w u d Look (Ok (found.Metadata m))
     dot_seen {u} {m} asked =
         let second : Resolved mid v u (call_meant v.tree (Stat e) (e ∷ [])) (λ (x : Metadata). x) (Ok m) =
@@ -308,13 +308,13 @@ module _ {old mid : Handles} {w v : World} {d : ℕ} (same : mid ≡ old) where
           tree = both.tree ∙ first.tree;
           touched =
               subst (λ r. Touches w.tree u.tree (d ∷ []) (ends_by (λ n. n) r) w.touched u.touched) (sym (ap
-              (λ r. unless r d) (free _ _ _ told.meaning)))
+              (λ r. unless r d) (free _ _ _ modelled.meaning)))
               (subst (λ n. Touches w.tree u.tree (d ∷ []) (n ∷ []) w.touched u.touched) node_same both.touched);
           keeps = both.keeps;
         }
 
-    pub dot_fault : {u : World} (code : ErrorCode)
-        → Told {A = Metadata} mid new v u (Stat e) (λ x. x) (hosted (Err code))
+    pub dot_fault : {u : HostModel} (code : ErrorCode)
+        → RefinesCall {A = Metadata} mid new v u (Stat e) (λ x. x) (hosted (Err code))
         → EndsInDirectory old w u d Look (Err (Code code))
     dot_fault {u} code asked =
         let second : OnlyLooks mid v u (e ∷ []) =

@@ -9,7 +9,7 @@ use Rattle.wasi_host.specs.Tree.{is_link}
 use Rattle.wasi_host.specs.HostCall.{OpenAt, StatAt}
 use Rattle.wasi_host.specs.Refusal.{refusal, holds}
 use Rattle.wasi_host.specs.Answer.{unless, reached, open_answer, stat_at_answer}
-use Rattle.wasi_host.specs.HostLaws.{World, Handles, Told, MeansErr, AfterErr}
+use Rattle.wasi_host.specs.HostLaws.{HostModel, Handles, RefinesCall, MeansErr, AfterErr}
 use Rattle.wasi_host.proofs.Chain.{free}
 use Rattle.wasi_host.specs.declared.errors.ErrorCode.{ErrorCode}
 use Rattle.wasi_host.specs.declared.errors.ErrorCode.TheVariants.{Io, Loop, NotDirectory}
@@ -32,38 +32,38 @@ ok_free None b is = refl
 ok_free (Some code) b is = absurd (cc)
 
 -- it is opened
-pub enters_ok : {old new : Handles} {w u : World} {d : ℕ} {name : List ℕ} {o : Options} {h : ℕ} (may_read : Bool)
-    → new ≡ insert old h → Told {A = ℕ} old new w u (OpenAt d name o) u.held (Ok h)
+pub enters_ok : {old new : Handles} {w u : HostModel} {d : ℕ} {name : List ℕ} {o : Options} {h : ℕ} (may_read : Bool)
+    → new ≡ insert old h → RefinesCall {A = ℕ} old new w u (OpenAt d name o) u.held (Ok h)
     → OpensUnread old w u d name o may_read (Ok h)
-enters_ok {old} {w = w} {u = u} {d = d} {name = name} {o = o} {h = h} may_read got told = record {
-  unread = unmet_code w.tree d name o may_read None (free _ _ _ told.meaning) refl;
+enters_ok {old} {w = w} {u = u} {d = d} {name = name} {o = o} {h = h} may_read got modelled = record {
+  unread = unmet_code w.tree d name o may_read None (free _ _ _ modelled.meaning) refl;
   resolved =
       call_ok {call = OpenAt d name o} {shown = u.held} (reached w.tree d name ∷ []) (open_ends w.tree d name o)
-      (still_live old h got) told;
+      (still_live old h got) modelled;
 }
 
-module _ {old mid : Handles} {w v : World} {d : ℕ} {name : List ℕ} {o : Options} (may_read : Bool)
+module _ {old mid : Handles} {w v : HostModel} {d : ℕ} {name : List ℕ} {o : Options} (may_read : Bool)
     (same : mid ≡ old) where
   -- no link is read, whatever the code
-  pub enters_refused : (e : HostError) → may_read ≡ false → Told {A = ℕ} old mid w v (OpenAt d name o) v.held (Err e)
+  pub enters_refused : (e : HostError) → may_read ≡ false → RefinesCall {A = ℕ} old mid w v (OpenAt d name o) v.held (Err e)
       → (OnlyLooks old w v (d ∷ []) × IsFault e) ⊎ OpensUnread old w v d name o may_read (Err e)
-  enters_refused e rule told = inr (record {
+  enters_refused e rule modelled = inr (record {
     unread = unmet_rule w.tree d name o may_read rule;
-    resolved = call_err {call = OpenAt d name o} {shown = v.held} e (reached w.tree d name ∷ []) same told;
+    resolved = call_err {call = OpenAt d name o} {shown = v.held} e (reached w.tree d name ∷ []) same modelled;
   })
 
   -- the code isn't one that a link has
   pub enters_other : (e : HostError) → IsTrue (is_plain name) → is_loop e ≡ false
       → may_be_link e o.dir_required ≡ false
-      → Told {A = ℕ} old mid w v (OpenAt d name o) v.held (Err e)
+      → RefinesCall {A = ℕ} old mid w v (OpenAt d name o) v.held (Err e)
       → (OnlyLooks old w v (d ∷ []) × IsFault e) ⊎ OpensUnread old w v d name o may_read (Err e)
-  enters_other Memory plain loop other told =
+  enters_other Memory plain loop other modelled =
       let resolved : Resolved old w v (open_meant w.tree d name o) v.held (Err Memory) =
-      call_err {call = OpenAt d name o} {shown = v.held} Memory (reached w.tree d name ∷ []) same told in
+      call_err {call = OpenAt d name o} {shown = v.held} Memory (reached w.tree d name ∷ []) same modelled in
       inl (looks_still resolved.tree resolved, inl refl)
-  enters_other (Code Io) plain loop other told =
+  enters_other (Code Io) plain loop other modelled =
       let resolved : Resolved old w v (open_meant w.tree d name o) v.held (Err (Code Io)) =
-      call_err {call = OpenAt d name o} {shown = v.held} (Code Io) (reached w.tree d name ∷ []) same told in
+      call_err {call = OpenAt d name o} {shown = v.held} (Code Io) (reached w.tree d name ∷ []) same modelled in
       elim resolved.tree [
         | inl still ↦ inl (looks_still still resolved, inr refl)
         | inr stepped ↦ inr (record {
@@ -72,17 +72,17 @@ module _ {old mid : Handles} {w v : World} {d : ℕ} {name : List ℕ} {o : Opti
           resolved = resolved;
         })
       ]
-  enters_other (Code NotDirectory) plain loop other told = inr (record {
+  enters_other (Code NotDirectory) plain loop other modelled = inr (record {
     unread =
         ap (λ b. b && (may_read && is_link_code (refusal w.tree (OpenAt d name o)))) (unrequired_link w.tree d name o plain
-        other (unless-err _ _ told.meaning));
+        other (unless-err _ _ modelled.meaning));
     resolved =
-        call_err {call = OpenAt d name o} {shown = v.held} (Code NotDirectory) (reached w.tree d name ∷ []) same told;
+        call_err {call = OpenAt d name o} {shown = v.held} (Code NotDirectory) (reached w.tree d name ∷ []) same modelled;
   })
-  enters_other (Code Loop) plain loop other told = absurd (cc)
-  enters_other (Code code) plain loop other told = inr (record {
-    unread = unmet_code w.tree d name o may_read (Some code) (unless-err _ _ told.meaning) refl;
-    resolved = call_err {call = OpenAt d name o} {shown = v.held} (Code code) (reached w.tree d name ∷ []) same told;
+  enters_other (Code Loop) plain loop other modelled = absurd (cc)
+  enters_other (Code code) plain loop other modelled = inr (record {
+    unread = unmet_code w.tree d name o may_read (Some code) (unless-err _ _ modelled.meaning) refl;
+    resolved = call_err {call = OpenAt d name o} {shown = v.held} (Code code) (reached w.tree d name ∷ []) same modelled;
   })
 
 -- ---- a code that a link has
@@ -117,17 +117,17 @@ link_code Memory may means = absurd (cc)
 link_code (Code Io) may means = absurd (cc)
 link_code (Code code) may means = (code, refl, may, means)
 
-link_tree : (w v : World) (d : ℕ) (name : List ℕ) (o : Options) (e : HostError) → has_link_code e ≡ true
+link_tree : (w v : HostModel) (d : ℕ) (name : List ℕ) (o : Options) (e : HostError) → has_link_code e ≡ true
     → AfterErr w (OpenAt d name o) e v
     → v.tree ≡ w.tree
 link_tree w v d name o Memory may after = absurd (cc)
 link_tree w v d name o (Code Io) may after = absurd (cc)
 link_tree w v d name o (Code code) may after = after.tree
 
-module _ {old mid : Handles} {w v : World} (here : ℕ) {name : List ℕ} {o : Options} (may_read : Bool)
+module _ {old mid : Handles} {w v : HostModel} (here : ℕ) {name : List ℕ} {o : Options} (may_read : Bool)
     (plain : IsTrue (is_plain name)) (refused : HostError) (may : has_link_code refused ≡ true) (same : mid ≡ old)
     (here_live : contains old here ≡ true)
-    (opens : Told {A = ℕ} old mid w v (OpenAt (w.held here).node name o) v.held (Err refused)) where
+    (opens : RefinesCall {A = ℕ} old mid w v (OpenAt (w.held here).node name o) v.held (Err refused)) where
   abbrev d : ℕ
   d = (w.held here).node
 
@@ -140,7 +140,7 @@ module _ {old mid : Handles} {w v : World} (here : ℕ) {name : List ℕ} {o : O
   here_same : (v.held here).node ≡ d
   here_same = ap (λ (h : OpenHandle). h.node) (first.keeps here here_live)
 
-  both : {u : World} → OnlyLooks mid v u ((v.held here).node ∷ []) → OnlyLooks old w u (d ∷ [])
+  both : {u : HostModel} → OnlyLooks mid v u ((v.held here).node ∷ []) → OnlyLooks old w u (d ∷ [])
   both {u} second = looks_then first (at_root w.tree d) (same_live same) (subst (λ n. OnlyLooks mid v u (n ∷ [])) here_same second)
 
   -- what is looked at is the same as before
@@ -169,10 +169,10 @@ module _ {old mid : Handles} {w v : World} (here : ℕ) {name : List ℕ} {o : O
 
   -- ---- a look behind it
 
-  module _ {new : Handles} {u : World} (still : new ≡ mid) where
+  module _ {new : Handles} {u : HostModel} (still : new ≡ mid) where
     -- the look is refused
     pub enters_unlooked : (e : HostError)
-        → Told {A = Metadata} mid new v u (StatAt (v.held here).node name) (λ m. m) (Err e)
+        → RefinesCall {A = Metadata} mid new v u (StatAt (v.held here).node name) (λ m. m) (Err e)
         → (OnlyLooks old w u (d ∷ []) × IsFault e) ⊎ OpensUnread old w u d name o may_read (Err e)
     enters_unlooked e looks = by e (subst (λ r. MeansErr r e) as_before looks.meaning)
       where
@@ -194,7 +194,7 @@ module _ {old mid : Handles} {w v : World} (here : ℕ) {name : List ℕ} {o : O
                   Err c in r) (sym alike.1))) seen;
             })
 
-    module _ {m : Metadata} (looks : Told {A =
+    module _ {m : Metadata} (looks : RefinesCall {A =
         Metadata} mid new v u (StatAt (v.held here).node name) (λ m. m) (Ok m)) where
       seen : OnlyLooks old w u (d ∷ [])
       seen =

@@ -12,8 +12,8 @@ use Rattle.wasi_host.specs.declared.system_time.SystemTime.{SystemTime}
 use Rattle.wasi_host.specs.Answer.{HostAnswer, link_answer}
 use Rattle.wasi_host.specs.Step.{step, found_by, found_under, made_by, new_directory, new_link, one_name_less, made_gone, unlink_step, remove_step, times_step, times_set_if, with_times}
 use Rattle.wasi_host.specs.Steps.{◌>>=◌}
-use Rattle.wasi_host.specs.HostLaws.{World, Handles, Told, answered}
-use Rattle.wasi_host.specs.Lineage.{HasProvenance, Only, Nothing}
+use Rattle.wasi_host.specs.HostLaws.{HostModel, Handles, RefinesCall, answered}
+use Rattle.wasi_host.specs.Provenance.{HasProvenance, Only, Nothing}
 use Rattle.wasi_host.specs.declared.lookup.Lookup.{Lookup}
 use Rattle.wasi_host.specs.declared.errors.ErrorCode.TheVariants.{NotPermitted}
 use Rattle.wasi_host.specs.declared.errors.HostError.{HostError}
@@ -25,8 +25,8 @@ use Rattle.wasi_resolve.specs.Laws.{From, GivesIn}
 use Rattle.wasi_resolve.specs.Paths.{Place, place}
 use Rattle.wasi_resolve.specs.Resolved.{Resolved, call_meant}
 use Rattle.wasi_resolve.specs.Parents.{directory_of, places_at, released, shown_place, GotIn, LiveIn}
-use Rattle.wasi_resolve.specs.EntryOps.{EntryOp, CreateDir, RemoveFile, RemoveDir, Symlink, ReadLink, SetTimes, PlaceAnswer, call_at, unrooted, answer_in, ends_in, done_in}
-use Rattle.wasi_resolve.specs.WalkSteps.{WorldStays}
+use Rattle.wasi_resolve.specs.EntryOps.{EntryOp, CreateDir, RemoveFile, RemoveDir, Symlink, ReadLink, SetTimes, EntryAnswer, call_at, unrooted, answer_in, ends_in, done_in}
+use Rattle.wasi_resolve.specs.WalkSteps.{ModelStays}
 use Rattle.wasi_resolve.specs.declared.parent.MaybeOwned.{MaybeOwned}
 use Rattle.wasi_resolve.specs.declared.parent.MaybeOwned.TheVariants.{Borrowed, Owned}
 use Rattle.wasi_resolve.specs.declared.parent.Parent.{Parent}
@@ -146,30 +146,30 @@ ends_known t c p = all_ends Known t (step t (call_at c p)) p (found (under_here 
 -- ---- the call of the host
 
 -- it means what the host's table says, and ends at the place
-pub call_done : {A : Type 0} {old new : Handles} {w v : World} (c : EntryOp) (p : Place)
+pub call_done : {A : Type 0} {old new : Handles} {w v : HostModel} (c : EntryOp) (p : Place)
     {shown : A → HostAnswer (call_at c p)} (r : Result A HostError) → new ≡ old
-    → Told old new w v (call_at c p) shown r
+    → RefinesCall old new w v (call_at c p) shown r
     → Resolved old w v (call_meant w.tree (call_at c p) (ends_in w.tree (step w.tree (call_at c p)) (Ok p))) shown r
-call_done {w = w} c p {shown} (Ok a) same told =
+call_done {w = w} c p {shown} (Ok a) same modelled =
     call_ok {call = call_at c p} {shown = shown} (ends_in w.tree (step w.tree (call_at c p)) (Ok p))
-    (ends_known w.tree c p) (same_live same) told
-call_done {w = w} c p {shown} (Err e) same told =
-    call_err {call = call_at c p} {shown = shown} e (ends_in w.tree (step w.tree (call_at c p)) (Ok p)) same told
+    (ends_known w.tree c p) (same_live same) modelled
+call_done {w = w} c p {shown} (Err e) same modelled =
+    call_err {call = call_at c p} {shown = shown} e (ends_in w.tree (step w.tree (call_at c p)) (Ok p)) same modelled
 
 -- ---- the directory is closed
 
-pub closed_stays : {live new : Handles} {w v : World} (h : ℕ) → new ≡ remove live h
-    → Told live new w v Close (λ unit. unit) answered → WorldStays (remove live h) w v
-closed_stays {live} h closed told =
-    close_stays told (λ q is.
+pub closed_stays : {live new : Handles} {w v : HostModel} (h : ℕ) → new ≡ remove live h
+    → RefinesCall live new w v Close (λ unit. unit) answered → ModelStays (remove live h) w v
+closed_stays {live} h closed modelled =
+    close_stays modelled (λ q is.
     let still = subst (λ l. contains l q ≡ true) (sym closed) is in (was_live live h closed q still, still))
 
 -- one that a part opened
-pub got_closed : {old mid live new : Handles} {w v : World} (h : ℕ) → (contains old h ≡ false) × (mid ≡ insert old h)
-    → live ≡ mid → new ≡ remove live h → Told live new w v Close (λ unit. unit) answered → WorldStays old w v
-got_closed {old} {live = live} {w = w} {v = v} h got same closed told =
+pub got_closed : {old mid live new : Handles} {w v : HostModel} (h : ℕ) → (contains old h ≡ false) × (mid ≡ insert old h)
+    → live ≡ mid → new ≡ remove live h → RefinesCall live new w v Close (λ unit. unit) answered → ModelStays old w v
+got_closed {old} {live = live} {w = w} {v = v} h got same closed modelled =
     let back : remove live h ≡ old = ap (λ l. remove l h) (same ∙ got.1) ∙ remove-insert old h got.0 in
-    subst (λ l. WorldStays l w v) back (closed_stays h closed told)
+    subst (λ l. ModelStays l w v) back (closed_stays h closed modelled)
 
 -- what is live without it was live
 pub released_live : (live : Handles) (d : MaybeOwned) (q : ℕ) → contains (released live d) q ≡ true
@@ -179,8 +179,8 @@ released_live live (Owned h) q is = was_live live h refl q is
 
 -- ---- the whole
 
-module _ {A : Type 0} {first : Handles} {w v : World} (s : ℕ) (text : List ℕ) (c : EntryOp)
-    {shown : A → PlaceAnswer c} where
+module _ {A : Type 0} {first : Handles} {w v : HostModel} (s : ℕ) (text : List ℕ) (c : EntryOp)
+    {shown : A → EntryAnswer c} where
   -- no place was found
   pub not_placed : (e : HostError) → Resolved first w v (places_at w.tree s text) (shown_place v.held) (Err e)
       → Resolved first w v (done_in w.tree s (place w.tree s text) c) shown (Err e)
@@ -189,11 +189,11 @@ module _ {A : Type 0} {first : Handles} {w v : World} (s : ℕ) (text : List ℕ
       (means_then (place w.tree s text) (answer_in w.tree c) e refused.answer) (looks_of (Err e) (λ is. refl) refused)
 
   -- A place was found, its call made, and its directory closed. The directory is reached from the start.
-  pub done_at_place : {mid : Handles} {u z : World} {r : Result A HostError} (p : Parent)
+  pub done_at_place : {mid : Handles} {u z : HostModel} {r : Result A HostError} (p : Parent)
       → released mid p.directory ≡ first
       → Resolved first w v (places_at w.tree s text) (shown_place v.held) (Ok p)
       → Resolved mid v u (done_in v.tree (v.held (directory_of p.directory)).node (Ok (shown_place v.held p)) c) shown r
-      → WorldStays (released mid p.directory) u z
+      → ModelStays (released mid p.directory) u z
       → Resolved first w z (done_in w.tree s (place w.tree s text) c) shown r
   done_at_place {mid = mid} {u = u} {z = z} {r = r} p closes placed done closed =
       let looks = looks_of (Ok p) (λ is. refl) placed in
@@ -207,7 +207,7 @@ module _ {A : Type 0} {first : Handles} {w v : World} (s : ℕ) (text : List ℕ
       subst (λ t. Resolved first w u (done_in t s (Ok (shown_place v.held p)) c) shown r) looks.tree at in
       resolved_stay
       (subst (λ q. Resolved first w u (done_in w.tree s q c) shown r) (sym placed.answer) there)
-      (subst (λ l. WorldStays l u z) closes closed)
+      (subst (λ l. ModelStays l u z) closes closed)
 
 -- ---- where the look-ups begin
 
@@ -230,30 +230,30 @@ traced_at_place {start} p first mid live opened called closed =
 
 -- ---- a link's text, where it has no root
 
-module _ {A : Type 0} {old new : Handles} {w v : World} (p : Place) {text_of : A → List ℕ} (same : new ≡ old) where
+module _ {A : Type 0} {old new : Handles} {w v : HostModel} (p : Place) {text_of : A → List ℕ} (same : new ≡ old) where
   -- it is not read
-  pub unread : (e : HostError) → Told old new w v (ReadLinkAt p.directory p.name) text_of (Err e)
+  pub unread : (e : HostError) → RefinesCall old new w v (ReadLinkAt p.directory p.name) text_of (Err e)
       → Resolved old w v (done_in w.tree p.directory (Ok p) ReadLink) text_of (Err e)
-  unread e told =
+  unread e modelled =
       resolved_err (done_in w.tree p.directory (Ok p) ReadLink) text_of e refl
-      (means_then (link_answer w.tree p.directory p.name) unrooted e told.meaning)
-      (looks_of (Err e) (λ is. refl) (call_done ReadLink p (Err e) same told))
+      (means_then (link_answer w.tree p.directory p.name) unrooted e modelled.meaning)
+      (looks_of (Err e) (λ is. refl) (call_done ReadLink p (Err e) same modelled))
 
-  module _ {a : A} (told : Told old new w v (ReadLinkAt p.directory p.name) text_of (Ok a)) where
+  module _ {a : A} (modelled : RefinesCall old new w v (ReadLinkAt p.directory p.name) text_of (Ok a)) where
     by_root : (rooted : Bool) → has_root (text_of a) ≡ rooted
         → link_answer w.tree p.directory p.name >>= unrooted ≡ cond rooted (Err NotPermitted) (Ok (text_of a))
     by_root rooted is =
-        ap (λ x. x >>= unrooted) told.meaning ∙ ap (λ b. cond b (Err NotPermitted) (Ok (text_of a))) is
+        ap (λ x. x >>= unrooted) modelled.meaning ∙ ap (λ b. cond b (Err NotPermitted) (Ok (text_of a))) is
 
     pub text_refused : has_root (text_of a) ≡ true
         → Resolved {A = A} old w v (done_in w.tree p.directory (Ok p) ReadLink) text_of (Err (Code NotPermitted))
     text_refused is =
         resolved_err (done_in w.tree p.directory (Ok p) ReadLink) text_of (Code NotPermitted) refl
         (err_means _ NotPermitted (by_root true is))
-        (looks_of (Ok a) (λ is. refl) (call_done ReadLink p (Ok a) same told))
+        (looks_of (Ok a) (λ is. refl) (call_done ReadLink p (Ok a) same modelled))
 
     pub text_given : has_root (text_of a) ≡ false
         → Resolved old w v (done_in w.tree p.directory (Ok p) ReadLink) text_of (Ok a)
     text_given is =
-        let read = call_done ReadLink p (Ok a) same told in
+        let read = call_done ReadLink p (Ok a) same modelled in
         record { answer = by_root false is; tree = read.tree; touched = read.touched; keeps = read.keeps }

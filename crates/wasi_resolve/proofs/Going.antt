@@ -9,7 +9,7 @@ use Rattle.wasi_host.specs.HostCall.{OpenAt, ReadLinkAt}
 use Rattle.wasi_host.specs.Refusal.{refusal}
 use Rattle.wasi_host.specs.Answer.{reached, access_of, link_text, open_answer, unless}
 use Rattle.wasi_host.specs.Step.{open_step}
-use Rattle.wasi_host.specs.HostLaws.{World, Handles, MeansErr}
+use Rattle.wasi_host.specs.HostLaws.{HostModel, Handles, MeansErr}
 use Rattle.wasi_host.proofs.Chain.{free}
 use Rattle.wasi_host.specs.declared.errors.ErrorCode.TheVariants.{Io}
 use Rattle.wasi_host.specs.declared.errors.HostError.{HostError}
@@ -38,18 +38,18 @@ use Rattle.wasi_host.proofs.Refusals.{unless-err}
 -- ---- from the handle on top
 
 -- where a walk stands: the handle on top, and its node
-pub record OnTop (b : Begin) (now : Handles) (v : World) (stack : List ℕ) (here : ℕ) : Type 0 where
+pub record OnTop (b : Begin) (now : Handles) (v : HostModel) (stack : List ℕ) (here : ℕ) : Type 0 where
   pub stands : Stands b.live now b.start stack
-  pub walked : Walked b.live b.world v b.start stack
+  pub walked : Walked b.live b.model v b.start stack
   pub at : here ≡ top_handle b.start stack
 
-pub on_top : {first now : Handles} {w v : World} {start : ℕ} {stack : List ℕ} {here : ℕ} → Stands first now start stack
+pub on_top : {first now : Handles} {w v : HostModel} {start : ℕ} {stack : List ℕ} {here : ℕ} → Stands first now start stack
     → Walked first w v start stack → here ≡ top_handle start stack → OnTop (begin first w start) now v stack here
 on_top stands walked at = record { stands = stands; walked = walked; at = at }
 
-module _ {b : Begin} {now : Handles} {v : World} {stack : List ℕ} {here : ℕ} (on : OnTop b now v stack here) where
-  abbrev w : World
-  w = b.world
+module _ {b : Begin} {now : Handles} {v : HostModel} {stack : List ℕ} {here : ℕ} (on : OnTop b now v stack here) where
+  abbrev w : HostModel
+  w = b.model
 
   abbrev first : Handles
   first = b.live
@@ -65,14 +65,14 @@ module _ {b : Begin} {now : Handles} {v : World} {stack : List ℕ} {here : ℕ}
   here_near = subst (Reached w.tree ((w.held start).node ∷ [])) (sym node_is)
       (top_near w.tree (w.held start).node (nodes_under v.held stack) on.walked.near)
 
-  pub looks_on : {u : World} → OnlyLooks now v u ((v.held here).node ∷ []) → OnlyLooks first w u ((w.held start).node ∷ [])
+  pub looks_on : {u : HostModel} → OnlyLooks now v u ((v.held here).node ∷ []) → OnlyLooks first w u ((w.held start).node ∷ [])
   looks_on next = looks_then on.walked.looks here_near (first_live on.stands) next
 
   -- what a call from there leaves of the stack
-  pub kept_on : {u : World} → OnlyLooks now v u ((v.held here).node ∷ []) → nodes_under u.held stack ≡ nodes_under v.held stack
+  pub kept_on : {u : HostModel} → OnlyLooks now v u ((v.held here).node ∷ []) → nodes_under u.held stack ≡ nodes_under v.held stack
   kept_on next = nodes_kept on.stands next.keeps
 
-  pub walked_on : {u : World} → OnlyLooks now v u ((v.held here).node ∷ []) → Walked first w u start stack
+  pub walked_on : {u : HostModel} → OnlyLooks now v u ((v.held here).node ∷ []) → Walked first w u start stack
   walked_on next = record {
     looks = looks_on next;
     near = subst (AreReached w.tree (w.held start).node) (sym (kept_on next)) on.walked.near;
@@ -90,7 +90,7 @@ module _ {b : Begin} {now : Handles} {v : World} {stack : List ℕ} {here : ℕ}
       → open_step v.tree (v.held here).node name middle_options ≡ v.tree
   leaves name none = open_leaves v.tree (v.held here).node name middle_options none refl refl
 
-  module _ {u : World} (name : List ℕ) (next : Component) (rest : List Component) {h : ℕ}
+  module _ {u : HostModel} (name : List ℕ) (next : Component) (rest : List Component) {h : ℕ}
       (opens : OpensUnread now v u (v.held here).node name middle_options true (Ok h)) where
     opened_none : refusal v.tree (OpenAt (v.held here).node name middle_options) ≡ None
     opened_none = free _ _ _ opens.resolved.answer
@@ -127,7 +127,7 @@ module _ {b : Begin} {now : Handles} {v : World} {stack : List ℕ} {here : ℕ}
           (to_start (λ t n. refusal t (OpenAt n name middle_options) ≡ None) opened_none)) (sym nodes_now);
     }
 
-  pub goes_link : {u : World} (name : List ℕ) (next : Component) (rest : List Component) → IsTrue (is_plain name)
+  pub goes_link : {u : HostModel} (name : List ℕ) (next : Component) (rest : List Component) → IsTrue (is_plain name)
       → MeetsLink now v u (v.held here).node name middle_options true
       → AtLink b (way v stack (Normal name ∷ next ∷ rest)) (way u stack (next ∷ rest)) name
   goes_link name next rest plain met =
@@ -157,7 +157,7 @@ module _ {b : Begin} {now : Handles} {v : World} {stack : List ℕ} {here : ℕ}
       inr (down_refused w.tree (w.held start).node name next rest (nodes_under v.held stack) code unread
       (unless-err _ _ means))
 
-  pub goes_err : {u : World} {after : List ℕ} (name : List ℕ) (next : Component) (rest : List Component) (e : HostError)
+  pub goes_err : {u : HostModel} {after : List ℕ} (name : List ℕ) (next : Component) (rest : List Component) (e : HostError)
       → (OnlyLooks now v u ((v.held here).node ∷ []) × IsFault e) ⊎ OpensUnread now v u
       (v.held here).node name middle_options true (Err e)
       → Fails b (way v stack (Normal name ∷ next ∷ rest)) (way u after (next ∷ rest)) e
@@ -201,10 +201,10 @@ module _ {b : Begin} {a c : Way} (parts : List Component) (so_far : GoesOn b a c
   here = record c { left = parts }
 
   from : {rest : List Component} {nodes : List ℕ}
-      → SameWalk b.world.tree (origin b) parts (way_nodes c) rest nodes
-      → SameWalk b.world.tree (origin b) a.left (way_nodes a) rest nodes
+      → SameWalk b.model.tree (origin b) parts (way_nodes c) rest nodes
+      → SameWalk b.model.tree (origin b) a.left (way_nodes a) rest nodes
   from {rest} {nodes} same =
-      same_then so_far.same (subst (λ l. SameWalk b.world.tree (origin b) l (way_nodes c) rest nodes)
+      same_then so_far.same (subst (λ l. SameWalk b.model.tree (origin b) l (way_nodes c) rest nodes)
       (sym is) same)
 
   pub goes_then : {d : Way} → GoesOn b here d → GoesOn b a d
@@ -231,7 +231,7 @@ module _ {b : Begin} {a c : Way} (parts : List Component) (so_far : GoesOn b a c
   }
 
 -- no part is left
-pub goes_dot : {b : Begin} {a : Way} {u : World} {stack : List ℕ} (old new : List PartLeft)
+pub goes_dot : {b : Begin} {a : Way} {u : HostModel} {stack : List ℕ} (old new : List PartLeft)
     → GoesOn b a (way u stack (parts_left old)) → length old ≡ 0 → length new ≡ 0
     → StopsAt b a (way u stack (parts_left new)) stops.Dot
 goes_dot {b} {a} {u} {stack} old new goes none still = (

@@ -9,14 +9,14 @@ use Rattle.wasi_host.specs.Refusal.{refusal}
 use Rattle.wasi_host.specs.Answer.{Listed, unless, or_next, reached, open_answer, list_answer}
 use Rattle.wasi_host.specs.Step.{open_step}
 use Rattle.wasi_host.specs.Steps.{◌>>=◌}
-use Rattle.wasi_host.specs.HostLaws.{World, Handles, Told}
+use Rattle.wasi_host.specs.HostLaws.{HostModel, Handles, RefinesCall}
 use Rattle.wasi_host.specs.declared.errors.ErrorCode.{ErrorCode}
 use Rattle.wasi_host.specs.declared.errors.HostError.{HostError}
 use Rattle.wasi_host.specs.declared.open_handle.OpenHandle.{OpenHandle}
 use Rattle.wasi_host.proofs.Touching.{at_root, open_ends}
 use Rattle.wasi_resolve.specs.Meanings.{listing_options, lists_at}
 use Rattle.wasi_resolve.specs.Resolved.{Meant, Resolved, call_meant}
-use Rattle.wasi_resolve.specs.WalkSteps.{OnlyLooks, WorldStays, open_meant}
+use Rattle.wasi_resolve.specs.WalkSteps.{OnlyLooks, ModelStays, open_meant}
 use Rattle.wasi_resolve.proofs.Calls.{call_ok, call_err, looks_of, means_then, resolved_err, resolved_stay, resolved_then, same_live, still_live}
 use Rattle.wasi_resolve.proofs.Entering.{ok_free}
 use Rattle.wasi_resolve.proofs.Tables.{open_leaves}
@@ -42,20 +42,20 @@ answer_is None b c is = (cc)
 answer_is (Some code) b c is = absurd (cc)
 
 -- it isn't opened
-pub not_opened : {A : Type 0} {old mid : Handles} {w v : World} {d : ℕ} (shown : A → List Listed) (e : HostError)
-    → mid ≡ old → Told {A = ℕ} old mid w v (OpenAt d (codes ".") listing_options) v.held (Err e)
+pub not_opened : {A : Type 0} {old mid : Handles} {w v : HostModel} {d : ℕ} (shown : A → List Listed) (e : HostError)
+    → mid ≡ old → RefinesCall {A = ℕ} old mid w v (OpenAt d (codes ".") listing_options) v.held (Err e)
     → Resolved old w v (lists_at w.tree d) shown (Err e)
-not_opened {w = w} {v = v} {d = d} shown e same told =
+not_opened {w = w} {v = v} {d = d} shown e same modelled =
     let opened : Resolved _ w v (open_meant w.tree d (codes ".") listing_options) v.held (Err e) =
     call_err {call = OpenAt d (codes ".") listing_options} {shown = v.held} e (reached w.tree d (codes ".") ∷ []) same
-    told in
+    modelled in
     resolved_err (lists_at w.tree d) shown e refl
-    (means_then (open_answer w.tree d (codes ".") listing_options) (list_answer w.tree) e told.meaning)
+    (means_then (open_answer w.tree d (codes ".") listing_options) (list_answer w.tree) e modelled.meaning)
     (looks_of (Err e) (dot_leaves w.tree d) opened)
 
 -- it is opened
-module _ {old mid : Handles} {w v : World} {d : ℕ} (h : ℕ) (got : mid ≡ insert old h)
-    (told : Told {A = ℕ} old mid w v (OpenAt d (codes ".") listing_options) v.held (Ok h)) where
+module _ {old mid : Handles} {w v : HostModel} {d : ℕ} (h : ℕ) (got : mid ≡ insert old h)
+    (modelled : RefinesCall {A = ℕ} old mid w v (OpenAt d (codes ".") listing_options) v.held (Ok h)) where
   abbrev listed : OpenHandle
   listed = v.held h
 
@@ -63,21 +63,21 @@ module _ {old mid : Handles} {w v : World} {d : ℕ} (h : ℕ) (got : mid ≡ in
   opened_looks =
       let opened : Resolved old w v (open_meant w.tree d (codes ".") listing_options) v.held (Ok h) =
       call_ok {call = OpenAt d (codes ".") listing_options} {shown = v.held} (reached w.tree d (codes ".") ∷ [])
-      (open_ends w.tree d (codes ".") listing_options) (still_live old h got) told in
+      (open_ends w.tree d (codes ".") listing_options) (still_live old h got) modelled in
       looks_of (Ok h) (dot_leaves w.tree d) opened
 
   -- the handle stands for the directory
   same_node : listed.node ≡ d
   same_node =
-      let is = answer_is (refusal w.tree (OpenAt d (codes ".") listing_options)) _ listed told.meaning in
+      let is = answer_is (refusal w.tree (OpenAt d (codes ".") listing_options)) _ listed modelled.meaning in
       sym (ap (λ (held : OpenHandle). held.node) is) ∙ dot_reached w.tree d
 
   abbrev list_meant : Tree → ℕ → Result (List Listed) ErrorCode → Meant (List Listed)
   list_meant t end answer = record { starts = d ∷ []; answer = answer; stepped = t; ends = end ∷ [] }
 
   -- and then it is listed, and closed
-  pub is_listed : {A : Type 0} {new : Handles} {u z : World} {shown : A → List Listed} (r : Result A HostError)
-      → new ≡ mid → Told mid new v u (ListDir listed) shown r → WorldStays old u z
+  pub is_listed : {A : Type 0} {new : Handles} {u z : HostModel} {shown : A → List Listed} (r : Result A HostError)
+      → new ≡ mid → RefinesCall mid new v u (ListDir listed) shown r → ModelStays old u z
       → Resolved old w z (lists_at w.tree d) shown r
   is_listed {A} {new = new} {u = u} {shown = shown} r same asked closed =
       let there : Resolved old w u (list_meant v.tree listed.node (list_answer v.tree listed)) shown r =
@@ -88,9 +88,9 @@ module _ {old mid : Handles} {w v : World} {d : ℕ} (h : ℕ) (got : mid ≡ in
       subst (λ n. Resolved old w u (list_meant w.tree n (list_answer w.tree listed)) shown r) same_node here in
       resolved_stay
       (subst (λ x. Resolved old w u (list_meant w.tree d x) shown r)
-      (sym (ap (λ x. x >>= list_answer w.tree) told.meaning)) at) closed
+      (sym (ap (λ x. x >>= list_answer w.tree) modelled.meaning)) at) closed
     where
-      by : (x : Result A HostError) → Told mid new v u (ListDir listed) shown x
+      by : (x : Result A HostError) → RefinesCall mid new v u (ListDir listed) shown x
           → Resolved mid v u (call_meant v.tree (ListDir listed) (listed.node ∷ [])) shown x
       by (Ok a) says =
           call_ok {call = ListDir listed} {shown = shown} (listed.node ∷ [])

@@ -2,7 +2,7 @@
 use Rattle.std.proofs.Common.{ℕ, ◌≡◌, ◌⊎◌, inl, inr, List, [], ◌∷◌, ◌++◌, Option, Some, None, refl, sym, ap, subst, ◌∙◌}
 use Rattle.std.specs.Prelude.{Contains}
 use Rattle.std.proofs.lemmas.List.Elements.{Contains-append_left, Contains-push_cases}
-use Rattle.wasi_host.specs.Lineage.{HasProvenance, Only, Nothing}
+use Rattle.wasi_host.specs.Provenance.{HasProvenance, Only, Nothing}
 use Rattle.wasi_host.proofs.Tracing.{traced_given, traced_kept}
 use Rattle.wasi_host.specs.declared.lookup.Lookup.{Lookup}
 use Rattle.wasi_host.specs.declared.lookup.LookKind.{LookKind}

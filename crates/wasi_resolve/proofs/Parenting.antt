@@ -8,7 +8,7 @@ use Rattle.wasi_host.specs.Answer.{unless, reached, access_of}
 use Rattle.wasi_host.specs.HostCall.{OpenAt}
 use Rattle.wasi_host.specs.Refusal.{refusal}
 use Rattle.wasi_host.specs.Steps.{◌>>=◌}
-use Rattle.wasi_host.specs.HostLaws.{World, Handles, MeansErr}
+use Rattle.wasi_host.specs.HostLaws.{HostModel, Handles, MeansErr}
 use Rattle.wasi_host.specs.declared.errors.ErrorCode.{ErrorCode}
 use Rattle.wasi_host.specs.declared.errors.ErrorCode.TheVariants.{IsDirectory, NoEntry}
 use Rattle.wasi_host.specs.declared.errors.HostError.{HostError}
@@ -148,13 +148,13 @@ module _ (t : Tree) (s : ℕ) (path : List ℕ) {text : List ℕ} {part : Compon
 
 -- ---- over a told host
 
-pub placed_none : (live : Handles) (w : World) (s : ℕ) (path : List ℕ) → split path ≡ None
+pub placed_none : (live : Handles) (w : HostModel) (s : ℕ) (path : List ℕ) → split path ≡ None
     → Resolved live w w (places_at w.tree s path) (shown_place w.held) (Err (Code NoEntry))
 placed_none live w s path is =
     resolved_err (places_at w.tree s path) (shown_place w.held) (Code NoEntry) refl (place_none w.tree s path is)
     (looks_none live w (s ∷ []))
 
-pub placed_start : (live : Handles) (w : World) (start : ℕ) (path : List ℕ) {text : List ℕ} {part : Component}
+pub placed_start : (live : Handles) (w : HostModel) (start : ℕ) (path : List ℕ) {text : List ℕ} {part : Component}
     (name : Name)
     → split path ≡ Some (text, part) → is_empty text ≡ true → name_bytes name ≡ part_text part
     → Resolved live w w (places_at w.tree (w.held start).node path) (shown_place w.held) (Ok (record {
@@ -173,7 +173,7 @@ placed_start live w start path {text} {part} name is none named = record {
   keeps = λ h within. refl;
 }
 
-module _ {live : Handles} {w u : World} (s : ℕ) (path text : List ℕ) (part : Component) (is : split path ≡ Some
+module _ {live : Handles} {w u : HostModel} (s : ℕ) (path text : List ℕ) (part : Component) (is : split path ≡ Some
     (text, part))
     (some : is_empty text ≡ false) where
   pub placed_ok : (h : ℕ) (name : Name) → name_bytes name ≡ part_text part

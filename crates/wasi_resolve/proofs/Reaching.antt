@@ -4,8 +4,8 @@ use Rattle.wasi_host.specs.Tree.{Tree}
 use Rattle.wasi_host.specs.HostCall.{ReadLinkAt}
 use Rattle.wasi_host.specs.Refusal.{refusal}
 use Rattle.wasi_host.specs.Answer.{link_text}
-use Rattle.wasi_host.specs.Lineage.{HasProvenance, Only, Nothing}
-use Rattle.wasi_host.specs.HostLaws.{World, Handles, MeansErr}
+use Rattle.wasi_host.specs.Provenance.{HasProvenance, Only, Nothing}
+use Rattle.wasi_host.specs.HostLaws.{HostModel, Handles, MeansErr}
 use Rattle.wasi_host.specs.declared.errors.ErrorCode.{ErrorCode}
 use Rattle.wasi_host.specs.declared.errors.HostError.{HostError}
 use Rattle.wasi_host.specs.declared.errors.HostError.TheVariants.{Code}
@@ -46,7 +46,7 @@ answer_stop t (Open o) s code = refl
 answer_stop t Look s code = refl
 
 -- a refusal of the walk itself
-pub stop_resolved : {first : Handles} {w u : World} {s : ℕ} (aim : Aim) (code : ErrorCode) {e : HostError}
+pub stop_resolved : {first : Handles} {w u : HostModel} {s : ℕ} (aim : Aim) (code : ErrorCode) {e : HostError}
     → e ≡ Code code
     → OnlyLooks first w u (s ∷ [])
     → Resolved first w u (meant_at w.tree aim s (Stop code)) (shown_found u.held) (Err e)
@@ -56,7 +56,7 @@ stop_resolved {w = w} {u = u} {s = s} aim code is looks =
     (answer_stop w.tree aim s code))) looks
 
 -- a fault of the host, or want of memory, wherever the walk would end
-pub fault_resolved : {first : Handles} {w u : World} {s : ℕ} (aim : Aim) (outcome : Outcome) {e : HostError} → IsFault e
+pub fault_resolved : {first : Handles} {w u : HostModel} {s : ℕ} (aim : Aim) (outcome : Outcome) {e : HostError} → IsFault e
     → OnlyLooks first w u (s ∷ [])
     → Resolved first w u (meant_at w.tree aim s outcome) (shown_found u.held) (Err e)
 fault_resolved {w = w} {u = u} {s = s} aim outcome fault looks =
@@ -76,7 +76,7 @@ reach_fails {b} {c = c} e k m fails =
         taken = suc at.taken;
         count = omega (arith, at.count);
         most = subst (λ l. suc at.taken ≤ taken_by l) (sym at.same)
-            (taken_more b.world.tree (origin b) k.aim k.follow k.slash at.taken fails.part c.left fails.nodes);
+            (taken_more b.model.tree (origin b) k.aim k.follow k.slash at.taken fails.part c.left fails.nodes);
       })
       | inr refused ↦ inr (record {
         taken = suc at.taken;
@@ -94,7 +94,7 @@ pub reach_link : {b : Begin} {a c : Way} (name : List ℕ) (k : Course) (m : ℕ
 reach_link {b} {a} {c} name k m link =
     let at = link.same.at k.aim k.follow k.slash m in
     let is : leg_from b k m a
-    ≡ Linked (suc at.taken) (way_nodes c) (link_text b.world.tree (top (origin b) (way_nodes c)) name) c.left =
+    ≡ Linked (suc at.taken) (way_nodes c) (link_text b.model.tree (top (origin b) (way_nodes c)) name) c.left =
     at.same ∙ link.linked k.aim k.follow k.slash at.taken in
     record {
       walked = link.walked;
@@ -106,9 +106,9 @@ reach_link {b} {a} {c} name k m link =
 
 -- ---- a directory, or a last name
 
-module _ {b : Begin} {now : Handles} {v : World} {stack : List ℕ} {here : ℕ} (on : OnTop b now v stack here) where
-  abbrev w : World
-  w = b.world
+module _ {b : Begin} {now : Handles} {v : HostModel} {stack : List ℕ} {here : ℕ} (on : OnTop b now v stack here) where
+  abbrev w : HostModel
+  w = b.model
 
   abbrev nodes : List ℕ
   nodes = nodes_under v.held stack
@@ -120,7 +120,7 @@ module _ {b : Begin} {now : Handles} {v : World} {stack : List ℕ} {here : ℕ}
   to_start P p = subst (λ t. P t d) on.walked.looks.tree (subst (P v.tree) (node_is on) p)
 
   -- what is meant from the node on top, as from the start
-  ends_from : {u : World} {r : Result Found HostError} (aim : Aim) (outcome : ℕ → Outcome)
+  ends_from : {u : HostModel} {r : Result Found HostError} (aim : Aim) (outcome : ℕ → Outcome)
       → Resolved now v u (meant_at v.tree aim (v.held here).node (outcome (v.held here).node)) (shown_found u.held) r
       → Resolved b.live w u (meant_at w.tree aim (origin b) (outcome d)) (shown_found u.held) r
   ends_from {u} {r} aim outcome resolved =
@@ -133,7 +133,7 @@ module _ {b : Begin} {now : Handles} {v : World} {stack : List ℕ} {here : ℕ}
       (subst (λ t. Resolved now v u (meant_at t aim (v.held here).node (outcome (v.held here).node))
       (shown_found u.held) r) on.walked.looks.tree resolved)))
 
-  pub reach_dot : {a : Way} {u : World} {left : List Component} {after : List ℕ} (k : Course) (m : ℕ)
+  pub reach_dot : {a : Way} {u : HostModel} {left : List Component} {after : List ℕ} (k : Course) (m : ℕ)
       (r : Result Found HostError) → GoesOn b a (way v stack left) → left ≡ []
       → EndsInDirectory now v u (v.held here).node k.aim r
       → ReachesEnd b k m a (way u after left) r
@@ -158,7 +158,7 @@ module _ {b : Begin} {now : Handles} {v : World} {stack : List ℕ} {here : ℕ}
     leg_is = (last.same.at k.aim k.follow k.slash m).same
         ∙ ap (λ l. leg_nodes w.tree (origin b) k.aim k.follow k.slash taken (Normal name ∷ l) nodes) last.none
 
-    unread_end : {u : World} (r : Result Found HostError) → EndsUnread now v u (v.held here).node k name r
+    unread_end : {u : HostModel} (r : Result Found HostError) → EndsUnread now v u (v.held here).node k name r
         → ReachesEnd b k m a (way u stack left) r
     unread_end r ends = record {
       taken = suc taken;
@@ -169,7 +169,7 @@ module _ {b : Begin} {now : Handles} {v : World} {stack : List ℕ} {here : ℕ}
       resolved = ends_from k.aim (λ n. Name n name k.slash) ends.resolved;
     }
 
-    pub reach_last : (u : World) (r : Result Reach HostError)
+    pub reach_last : (u : HostModel) (r : Result Reach HostError)
         → EndsAtName now v u (v.held here).node k name r
         → Reaches b k m a (way u stack left) r
     reach_last u (Ok (reach.Found it)) ends = unread_end (Ok it) ends

@@ -22,7 +22,7 @@ use Rattle.wasi_resolve.specs.Laws.{GivesIn}
 use Rattle.wasi_resolve.specs.EntryOps.{EntryOp, CreateDir, RemoveFile, RemoveDir, Symlink, ReadLink, SetTimes, call_at, unrooted, answer_in, place_text, place_for, step_in}
 use Rattle.wasi_resolve.specs.TwoPathOps.{TwoPathOp, HardLink, Rename, Places, text_for, asks_directory, places_in, places_for, call_at_two, answer_at_two, step_at_two}
 use Rattle.wasi_resolve.specs.Paths.{Opening, Place, opening, step_of, looked, place, timed}
-use Rattle.wasi_resolve.specs.PathRequest.{PathRequest, OpenPath, LookPath, AtPlace, TimesPath, AtTwo, as_asked, PathReply, Opened, opened_at, answer_at, times_through, path_reply, path_after, path_starts, path_gives}
+use Rattle.wasi_resolve.specs.PathRequest.{PathRequest, OpenPath, LookPath, AtEntry, TimesPath, AtTwo, as_asked, PathReply, Opened, opened_at, answer_at, times_through, path_reply, path_after, path_starts, path_gives}
 use Rattle.wasi_resolve.proofs.WalkAgreeing.{from_one}
 use Rattle.wasi_resolve.proofs.PathAgreeing as paths
 
@@ -137,7 +137,7 @@ path_leaves t (OpenPath s text o follow directory) =
         near_from (from_one (Reached t (s ∷ [])) near) (step_leaves t (OpenAt e.directory e.name e.options))
     by (Err code) near = stays_near
 path_leaves t (LookPath s text follow) = stays_near
-path_leaves t (AtPlace s text what) = place_leaves t s text what
+path_leaves t (AtEntry s text what) = place_leaves t s text what
 path_leaves t (TimesPath s text true atime mtime) =
     times_leave t s atime mtime (timed t s text)
     (paths.timed_seen (reached_closed t (s ∷ [])) itself s text (root s (first s)))
@@ -222,7 +222,7 @@ module _ {Seen : ℕ → Type 0} {t u : Tree} (closed : IsClosed Seen t) (agree 
       (metadata_of u n))
       (paths.looked_seen closed agree s text follow (from s (first s))) (λ n seen. rw (agree.nodes n seen) refl)
       ∙ ap (λ r. r >>= (λ n. Ok (metadata_of u n))) (paths.looked_same closed agree s text follow (from s (first s)))
-  path_reply_same (AtPlace s text what) from = place_reply_same s text what (from s (first s))
+  path_reply_same (AtEntry s text what) from = place_reply_same s text what (from s (first s))
   path_reply_same (TimesPath s text true atime mtime) from =
       ap (λ r. r >>= (λ held. let done : Result (Unit {0}) ErrorCode = Ok tt in done))
       (paths.timed_same closed agree s text (from s (first s)))
@@ -252,7 +252,7 @@ module _ {Seen : ℕ → Type 0} {t u : Tree} (closed : IsClosed Seen t) (agree 
       by (Ok e) seen = host.opened_agree closed agree e.directory e.name e.options seen
       by (Err code) seen = host.same_agree closed agree
   path_after_agree (LookPath s text follow) from = host.same_agree closed agree
-  path_after_agree (AtPlace s text what) from = place_after_agree s text what (from s (first s))
+  path_after_agree (AtEntry s text what) from = place_after_agree s text what (from s (first s))
   path_after_agree (TimesPath s text true atime mtime) from =
       rw (← paths.timed_same closed agree s text (from s (first s)))
       (by (timed t s text) (paths.timed_seen closed agree s text (from s (first s))))
@@ -307,6 +307,6 @@ module _ {Seen : ℕ → Type 0} {t : Tree} (closed : IsClosed Seen t) where
           (host.reached_seen closed e.directory e.name e.options seen)
       by (Err code) seen answered = absurd (cc)
   path_given_seen (LookPath s text follow) reply from is n has = absurd (omega (arith, has.1))
-  path_given_seen (AtPlace s text what) reply from is n has = absurd (omega (arith, has.1))
+  path_given_seen (AtEntry s text what) reply from is n has = absurd (omega (arith, has.1))
   path_given_seen (TimesPath s text follow atime mtime) reply from is n has = absurd (omega (arith, has.1))
   path_given_seen (AtTwo old old_text new new_text what) reply from is n has = absurd (omega (arith, has.1))

@@ -7,7 +7,7 @@ use Rattle.wasi_host.specs.Tree.{Tree}
 use Rattle.wasi_host.specs.HostCall.{SetTimes}
 use Rattle.wasi_host.specs.Refusal.{refusal}
 use Rattle.wasi_host.specs.Steps.{◌>>=◌}
-use Rattle.wasi_host.specs.HostLaws.{World, Handles, Told, MeansErr}
+use Rattle.wasi_host.specs.HostLaws.{HostModel, Handles, RefinesCall, MeansErr}
 use Rattle.wasi_host.specs.declared.errors.ErrorCode.{ErrorCode}
 use Rattle.wasi_host.specs.declared.errors.ErrorCode.TheVariants.{Access, Io, IsDirectory}
 use Rattle.wasi_host.specs.declared.errors.HostError.{HostError}
@@ -21,7 +21,7 @@ use Rattle.wasi_resolve.specs.PathRequest.{TimesPath, meant_by, times_through}
 use Rattle.wasi_resolve.specs.Paths.{opened, reading, writing, or_else, access_unsupported, timed_again, timed}
 use Rattle.wasi_resolve.specs.Resolved.{Meant, Resolved, call_meant}
 use Rattle.wasi_resolve.specs.Timed.{reads_after, read_refused, read_at, timed_at}
-use Rattle.wasi_resolve.specs.WalkSteps.{OnlyLooks, WorldStays}
+use Rattle.wasi_resolve.specs.WalkSteps.{OnlyLooks, ModelStays}
 use Rattle.wasi_resolve.proofs.LawProofs.{paths_stay_in_reach}
 use Rattle.wasi_resolve.proofs.Calls.{call_ok, call_err, found_ok, looks_of, means_then, resolved_err, resolved_stay, resolved_then, same_live, still_live}
 use Rattle.wasi_resolve.proofs.Parenting.{opening_leaves}
@@ -35,7 +35,7 @@ refused_reads r (Code Io) means = tt
 refused_reads r (Code Access) means = ap (or_else access_unsupported) means
 refused_reads r (Code code) means = ap (or_else access_unsupported) means
 
-module _ {live : Handles} {w v : World} (s : ℕ) (text : List ℕ) where
+module _ {live : Handles} {w v : HostModel} (s : ℕ) (text : List ℕ) where
   pub read_ok : (h : ℕ) → Resolved live w v (opens_at w.tree s text reading) v.held (Ok h)
       → Resolved live w v (read_at w.tree s text) v.held (Ok h)
   read_ok h opens =
@@ -76,7 +76,7 @@ written : (t : Tree) (s : ℕ) (text : List ℕ) (held : OpenHandle) → opened 
 unfolding timed
 written t s text held is = ap (or_else (timed_again t s text)) is
 
-module _ {live : Handles} {w v : World} (s : ℕ) (text : List ℕ) where
+module _ {live : Handles} {w v : HostModel} (s : ℕ) (text : List ℕ) where
   pub timed_ok : (h : ℕ) → Resolved live w v (opens_at w.tree s text writing) v.held (Ok h)
       → Resolved live w v (timed_at w.tree s text) v.held (Ok h)
   timed_ok h opens =
@@ -95,7 +95,7 @@ module _ {live : Handles} {w v : World} (s : ℕ) (text : List ℕ) where
       (refused_looks e opens)
 
 -- the same start is read in the same tree
-pub timed_by_read : {live : Handles} {w v u : World} (start : ℕ) (text : List ℕ) (e : HostError)
+pub timed_by_read : {live : Handles} {w v u : HostModel} (start : ℕ) (text : List ℕ) (e : HostError)
     {r : Result ℕ HostError} → contains live start ≡ true → reads_after e ≡ true
     → Resolved live w v (opens_at w.tree (w.held start).node text writing) v.held (Err e)
     → Resolved live v u (read_at v.tree (v.held start).node text) u.held r
@@ -121,7 +121,7 @@ set_meant t s atime mtime held = record {
   ends = ends_by (λ (h : OpenHandle). h.node) held;
 }
 
-module _ {first : Handles} {w v : World} (s : ℕ) (text : List ℕ) (atime mtime : Option SystemTime) where
+module _ {first : Handles} {w v : HostModel} (s : ℕ) (text : List ℕ) (atime mtime : Option SystemTime) where
   -- nothing is opened
   pub not_timed : (e : HostError) → Resolved first w v (timed_at w.tree s text) v.held (Err e)
       → Resolved first w v (meant_by w.tree (TimesPath s text true atime mtime)) (λ unit. unit) (Err e)
@@ -130,9 +130,9 @@ module _ {first : Handles} {w v : World} (s : ℕ) (text : List ℕ) (atime mtim
       (means_then (timed w.tree s text) (λ h. Ok tt) e opens.answer) (looks_of (Err e) (λ is. refl) opens)
 
   -- the handle's node is reached from the start, its times are set, and it is closed
-  pub is_timed : {mid new : Handles} {u z : World} (h : ℕ) (r : Result (Unit {0}) HostError) → mid ≡ insert first h
+  pub is_timed : {mid new : Handles} {u z : HostModel} (h : ℕ) (r : Result (Unit {0}) HostError) → mid ≡ insert first h
       → new ≡ mid → Resolved first w v (timed_at w.tree s text) v.held (Ok h)
-      → Told mid new v u (SetTimes (v.held h).node atime mtime) (λ unit. unit) r → WorldStays first u z
+      → RefinesCall mid new v u (SetTimes (v.held h).node atime mtime) (λ unit. unit) r → ModelStays first u z
       → Resolved first w z (meant_by w.tree (TimesPath s text true atime mtime)) (λ unit. unit) r
   unfolding refusal
   is_timed {mid} {new} {u} {z} h r got same opens set closed =
@@ -150,7 +150,7 @@ module _ {first : Handles} {w v : World} (s : ℕ) (text : List ℕ) (atime mtim
       n : ℕ
       n = (v.held h).node
 
-      by : (x : Result (Unit {0}) HostError) → Told mid new v u (SetTimes n atime mtime) (λ unit. unit) x
+      by : (x : Result (Unit {0}) HostError) → RefinesCall mid new v u (SetTimes n atime mtime) (λ unit. unit) x
           → Resolved mid v u (call_meant v.tree (SetTimes n atime mtime) (n ∷ [])) (λ unit. unit) x
       by (Ok a) says =
           call_ok {call = SetTimes n atime mtime} (n ∷ [])

@@ -8,8 +8,8 @@ use Rattle.wasi_host.specs.ValidTree.{Reached, root}
 use Rattle.wasi_host.specs.Answer.{HostAnswer}
 use Rattle.wasi_host.specs.Step.{step, found_by, found_under, made_by, added_step, moved_step, link_step, rename_step, dropped_step, name_lost, with_name, one_name_more}
 use Rattle.wasi_host.specs.Steps.{◌>>=◌}
-use Rattle.wasi_host.specs.HostLaws.{World, Handles, Told, MeansErr, Logged, both_looked}
-use Rattle.wasi_host.specs.Lineage.{HasProvenance, Only, OneOf, Nothing}
+use Rattle.wasi_host.specs.HostLaws.{HostModel, Handles, RefinesCall, MeansErr, Logged, both_looked}
+use Rattle.wasi_host.specs.Provenance.{HasProvenance, Only, OneOf, Nothing}
 use Rattle.wasi_host.specs.declared.lookup.Lookup.{Lookup}
 use Rattle.wasi_host.specs.declared.errors.ErrorCode.{ErrorCode}
 use Rattle.wasi_host.specs.declared.lookup.LookKind.{LookKind}
@@ -27,7 +27,7 @@ use Rattle.wasi_resolve.specs.Parents.{directory_of, places_at, released, shown_
 use Rattle.wasi_resolve.specs.EntryOps.{ends_in}
 use Rattle.wasi_resolve.specs.TwoPathOps.{TwoPathOp, HardLink, Rename, Places, places_in, call_at_two, answer_at_two, step_at_two, ends_at_two}
 use Rattle.wasi_resolve.specs.TwoParents.{shown_places, both_at, both_released}
-use Rattle.wasi_resolve.specs.WalkSteps.{OnlyLooks, WorldStays}
+use Rattle.wasi_resolve.specs.WalkSteps.{OnlyLooks, ModelStays}
 use Rattle.wasi_resolve.specs.declared.two_path_ops.TwoParents.{TwoParents}
 use Rattle.wasi_resolve.specs.declared.parent.MaybeOwned.{MaybeOwned}
 use Rattle.wasi_resolve.specs.declared.parent.MaybeOwned.TheVariants.{Borrowed, Owned}
@@ -141,16 +141,16 @@ ends_known t what requires_dir p =
 -- ---- the call of the host
 
 -- it means what the host's table says, and ends at both places
-pub both_done : {A : Type 0} {old new : Handles} {w v : World} (what : TwoPathOp) (requires_dir : Bool) (p : Places)
+pub both_done : {A : Type 0} {old new : Handles} {w v : HostModel} (what : TwoPathOp) (requires_dir : Bool) (p : Places)
     {shown : A → HostAnswer (call_at_two what requires_dir p)} (r : Result A HostError) → new ≡ old
-    → Told old new w v (call_at_two what requires_dir p) shown r
+    → RefinesCall old new w v (call_at_two what requires_dir p) shown r
     → Resolved old w v (call_meant w.tree (call_at_two what requires_dir p)
     (ends_at_two w.tree (step w.tree (call_at_two what requires_dir p)) (Ok p))) shown r
-both_done {w = w} what requires_dir p {shown} (Ok a) same told =
+both_done {w = w} what requires_dir p {shown} (Ok a) same modelled =
     call_ok {call = call_at_two what requires_dir p} {shown = shown} _ (ends_known w.tree what requires_dir p)
-    (same_live same) told
-both_done {w = w} what requires_dir p {shown} (Err e) same told =
-    call_err {call = call_at_two what requires_dir p} {shown = shown} e _ same told
+    (same_live same) modelled
+both_done {w = w} what requires_dir p {shown} (Err e) same modelled =
+    call_err {call = call_at_two what requires_dir p} {shown = shown} e _ same modelled
 
 -- ---- both directories are closed
 
@@ -158,16 +158,16 @@ both_live : (live : Handles) (first second : MaybeOwned) (q : ℕ) → contains 
     → contains live q ≡ true
 both_live live first second q is = released_live live second q (released_live (released live second) first q is)
 
-pub both_stay : (live : Handles) {mid : Handles} {w v u : World} (first second : MaybeOwned) → mid ≡ released live second
-    → WorldStays (released live second) w v → WorldStays (released mid first) v u
-    → WorldStays (both_released live first second) w u
+pub both_stay : (live : Handles) {mid : Handles} {w v u : HostModel} (first second : MaybeOwned) → mid ≡ released live second
+    → ModelStays (released live second) w v → ModelStays (released mid first) v u
+    → ModelStays (both_released live first second) w u
 both_stay live {w = w} {v = v} {u = u} first second is one other =
-    let less : WorldStays (both_released live first second) w v = record {
+    let less : ModelStays (both_released live first second) w v = record {
       tree = one.tree;
       touched = one.touched;
       keeps = λ q has. one.keeps q (released_live (released live second) first q has);
     } in
-    stayed_then less (subst (λ l. WorldStays (released l first) v u) is other)
+    stayed_then less (subst (λ l. ModelStays (released l first) v u) is other)
 
 -- ---- both places
 
@@ -198,7 +198,7 @@ lives_on : (start : ℕ) (first mid : Handles) (d : MaybeOwned) → LiveIn start
 lives_on start first mid (Borrowed h) live q is = same_live live.1 q is
 lives_on start first mid (Owned h) live q is = still_live first h live.1 q is
 
-module _ {first : Handles} {w v : World} (s : ℕ) (text : List ℕ) (e : ℕ) (new_text : List ℕ) where
+module _ {first : Handles} {w v : HostModel} (s : ℕ) (text : List ℕ) (e : ℕ) (new_text : List ℕ) where
   from_old : OnlyLooks first w v (s ∷ []) → OnlyLooks first w v (s ∷ e ∷ [])
   from_old looks = looks_through (looks_none first w (s ∷ e ∷ [])) (old_start s e) (λ h is. is) looks
 
@@ -212,7 +212,7 @@ module _ {first : Handles} {w v : World} (s : ℕ) (text : List ℕ) (e : ℕ) (
       (from_old (looks_of (Err x) (λ is. refl) refused))
 
 -- The old place is found, and the new one is looked for from a start that was live before.
-module _ {first : Handles} {w v : World} (s : ℕ) (text : List ℕ) (p : Parent)
+module _ {first : Handles} {w v : HostModel} (s : ℕ) (text : List ℕ) (p : Parent)
     (placed : Resolved first w v (places_at w.tree s text) (shown_place v.held) (Ok p)) where
   so_far : OnlyLooks first w v (s ∷ [])
   so_far = looks_of (Ok p) (λ is. refl) placed
@@ -224,7 +224,7 @@ module _ {first : Handles} {w v : World} (s : ℕ) (text : List ℕ) (p : Parent
     abbrev new_place : Result Place ErrorCode
     new_place = place w.tree e new_text
 
-    module _ {mid : Handles} {u : World} {r : Result Parent HostError}
+    module _ {mid : Handles} {u : HostModel} {r : Result Parent HostError}
         (second : Resolved mid v u (places_at v.tree (v.held new).node new_text) (shown_place u.held) r) where
       -- it is looked for in the same tree, and from the same node
       same_second : Resolved mid v u (places_at w.tree e new_text) (shown_place u.held) r
@@ -239,8 +239,8 @@ module _ {first : Handles} {w v : World} (s : ℕ) (text : List ℕ) (p : Parent
           (looks_of r (λ is. sym so_far.tree) same_second)
 
     -- it is refused, and the old one's directory is closed
-    pub new_refused : {mid : Handles} {u z : World} (start : ℕ) → LiveIn start first p.directory mid → (x : HostError)
-        → Resolved mid v u (places_at v.tree (v.held new).node new_text) (shown_place u.held) (Err x) → WorldStays first u z
+    pub new_refused : {mid : Handles} {u z : HostModel} (start : ℕ) → LiveIn start first p.directory mid → (x : HostError)
+        → Resolved mid v u (places_at v.tree (v.held new).node new_text) (shown_place u.held) (Err x) → ModelStays first u z
         → Resolved first w z (both_at w.tree s text e new_text) (shown_places z.held) (Err x)
     new_refused {z = z} start live x refused closed =
         let means : MeansErr (first_then (Ok (shown_place v.held p)) new_place) x =
@@ -250,7 +250,7 @@ module _ {first : Handles} {w v : World} (s : ℕ) (text : List ℕ) (p : Parent
         (looks_stay (both_looks refused start live) closed)
 
     -- both are found
-    pub both_placed : {mid : Handles} {u : World} (start : ℕ) → LiveIn start first p.directory mid → (q : Parent)
+    pub both_placed : {mid : Handles} {u : HostModel} (start : ℕ) → LiveIn start first p.directory mid → (q : Parent)
         → contains mid (directory_of p.directory) ≡ true
         → Resolved mid v u (places_at v.tree (v.held new).node new_text) (shown_place u.held) (Ok q)
         → Resolved first w u (both_at w.tree s text e new_text) (shown_places u.held) (Ok (record { old = p; new = q }))
@@ -273,7 +273,7 @@ done_at_both t starts p what requires_dir = record {
   ends = ends_at_two t (step_at_two t what requires_dir p) p;
 }
 
-module _ {first : Handles} {w v : World} (s : ℕ) (text : List ℕ) (e : ℕ) (new_text : List ℕ) (p : TwoParents)
+module _ {first : Handles} {w v : HostModel} (s : ℕ) (text : List ℕ) (e : ℕ) (new_text : List ℕ) (p : TwoParents)
     (placed : Resolved first w v (both_at w.tree s text e new_text) (shown_places v.held) (Ok p)) where
   abbrev places : Places
   places = shown_places v.held p
@@ -296,11 +296,11 @@ module _ {first : Handles} {w v : World} (s : ℕ) (text : List ℕ) (e : ℕ) (
       ]
 
   -- the places were found, the call made there, and both directories closed
-  pub done_at_two : {A : Type 0} {mid : Handles} {u z : World} {r : Result A HostError} {shown : A → Unit {0}}
+  pub done_at_two : {A : Type 0} {mid : Handles} {u z : HostModel} {r : Result A HostError} {shown : A → Unit {0}}
       (what : TwoPathOp) (requires_dir : Bool)
       → both_released mid p.old.directory p.new.directory ≡ first
       → Resolved mid v u (done_at_both v.tree directories (Ok places) what requires_dir) shown r
-      → WorldStays (both_released mid p.old.directory p.new.directory) u z
+      → ModelStays (both_released mid p.old.directory p.new.directory) u z
       → Resolved first w z (done_at_both w.tree (s ∷ e ∷ []) (places_in w.tree s text e new_text) what requires_dir)
       shown r
   done_at_two {mid = mid} {u = u} {z = z} {r = r} {shown = shown} what requires_dir closes done closed =
@@ -314,7 +314,7 @@ module _ {first : Handles} {w v : World} (s : ℕ) (text : List ℕ) (e : ℕ) (
       resolved_stay
       (subst (λ x. Resolved first w u (done_at_both w.tree (s ∷ e ∷ []) x what requires_dir) shown r)
       (sym placed.answer) there)
-      (subst (λ l. WorldStays l u z) closes closed)
+      (subst (λ l. ModelStays l u z) closes closed)
 
 -- ---- where the look-ups begin
 

@@ -18,14 +18,14 @@ use Rattle.wasi_host.proofs.Agreeing.{one}
 use Rattle.wasi_resolve.proofs.Simulation.{walk-by_nodes}
 
 -- a row that holds refuses
-no_row : (before : List (Bool × ErrorCode)) (row : Bool × ErrorCode) (rows : List (Bool × ErrorCode))
+no_rule : (before : List (Bool × ErrorCode)) (row : Bool × ErrorCode) (rows : List (Bool × ErrorCode))
     → row.0 ≡ true → first_rule (before ++ row ∷ rows) ≡ None → ⊥
-no_row [] row rows is e = by row.0 is e
+no_rule [] row rows is e = by row.0 is e
   where
     by : (b : Bool) → b ≡ true → cond b (Some row.1) (first_rule rows) ≡ None → ⊥
     by true is e = absurd (cc)
     by false is e = absurd (cc)
-no_row (first ∷ before) row rows is e = no_row before row rows is (by first.0 e)
+no_rule (first ∷ before) row rows is e = no_rule before row rows is (by first.0 e)
   where
     by : (b : Bool) → cond b (Some first.1) (first_rule (before ++ row ∷ rows)) ≡ None
         → first_rule (before ++ row ∷ rows) ≡ None
@@ -42,7 +42,7 @@ there t d name o makes_none e = by (child t d name) refl
     by (Some n) is = (n, is)
     by None is =
         let rows = refusal_rules t (OpenAt d name o) in
-        absurd (no_row (take 6 rows) (is_none (child t d name) && not (creates o), codes.NoEntry) (drop 7 rows) (rw
+        absurd (no_rule (take 6 rows) (is_none (child t d name) && not (creates o), codes.NoEntry) (drop 7 rows) (rw
         (is, makes_none) refl) e)
 
 -- a look that isn't refused finds its name
@@ -54,7 +54,7 @@ stat_there t d name e = by (child t d name) refl
     by : (c : Option ℕ) → child t d name ≡ c → (n : ℕ) × (child t d name ≡ Some n)
     by (Some n) is = (n, is)
     by None is =
-        absurd (no_row (take 4 (refusal_rules t (StatAt d name))) (is_none (child t d name), codes.NoEntry) [] (rw
+        absurd (no_rule (take 4 (refusal_rules t (StatAt d name))) (is_none (child t d name), codes.NoEntry) [] (rw
         (is) refl) e)
 
 -- a set that has a node

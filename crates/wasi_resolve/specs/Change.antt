@@ -1,5 +1,5 @@
 -- What one call of the host changes at a place, as contracts see it.
-use Rattle.wasi_resolve.specs.EntryOps.{EntryOp, CreateDir, RemoveFile, RemoveDir, Symlink, SetTimes, PlaceAnswer}
+use Rattle.wasi_resolve.specs.EntryOps.{EntryOp, CreateDir, RemoveFile, RemoveDir, Symlink, SetTimes, EntryAnswer}
 use Rattle.wasi_resolve.specs.declared.entry_ops.Change.{Change}
 use Rattle.wasi_resolve.specs.declared.entry_ops.Change.TheVariants as changes
 
@@ -11,7 +11,7 @@ change_call (changes.Symlink text) = Symlink text.now
 change_call (changes.SetTimes atime mtime) = SetTimes atime mtime
 
 -- it answers nothing but that it was done
-abbrev pub change_done : (change : Change) → Unit {0} → PlaceAnswer (change_call change)
+abbrev pub change_done : (change : Change) → Unit {0} → EntryAnswer (change_call change)
 change_done changes.CreateDir unit = unit
 change_done changes.RemoveFile unit = unit
 change_done changes.RemoveDir unit = unit

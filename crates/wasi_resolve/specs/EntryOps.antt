@@ -33,20 +33,20 @@ call_at ReadLink p = ReadLinkAt p.directory p.name
 call_at (SetTimes atime mtime) p = TimesAt p.directory p.name atime mtime
 
 -- what is answered: a link's text, or nothing but that it was done
-abbrev pub PlaceAnswer : EntryOp → Type 0
-PlaceAnswer CreateDir = Unit {0}
-PlaceAnswer RemoveFile = Unit {0}
-PlaceAnswer RemoveDir = Unit {0}
-PlaceAnswer (Symlink text) = Unit {0}
-PlaceAnswer ReadLink = List ℕ
-PlaceAnswer (SetTimes atime mtime) = Unit {0}
+abbrev pub EntryAnswer : EntryOp → Type 0
+EntryAnswer CreateDir = Unit {0}
+EntryAnswer RemoveFile = Unit {0}
+EntryAnswer RemoveDir = Unit {0}
+EntryAnswer (Symlink text) = Unit {0}
+EntryAnswer ReadLink = List ℕ
+EntryAnswer (SetTimes atime mtime) = Unit {0}
 
 -- a text with a root leads out of every directory, and isn't handed out
 abbrev pub unrooted : List ℕ → Result (List ℕ) ErrorCode
 unrooted text = if has_root text then Err NotPermitted else Ok text
 
 -- the answer at the place: that of the host's table
-abbrev pub answer_in : Tree → (c : EntryOp) → Place → Result (PlaceAnswer c) ErrorCode
+abbrev pub answer_in : Tree → (c : EntryOp) → Place → Result (EntryAnswer c) ErrorCode
 answer_in t CreateDir p = host_answer t (MakeDirAt p.directory p.name)
 answer_in t RemoveFile p = host_answer t (UnlinkAt p.directory p.name)
 answer_in t RemoveDir p = host_answer t (RemoveDirAt p.directory p.name)
@@ -78,7 +78,7 @@ ends_in t t' (Ok p) =
 ends_in t t' (Err code) = []
 
 -- what is done at a place, if there is one
-abbrev pub done_in : Tree → ℕ → Result Place ErrorCode → (c : EntryOp) → Meant (PlaceAnswer c)
+abbrev pub done_in : Tree → ℕ → Result Place ErrorCode → (c : EntryOp) → Meant (EntryAnswer c)
 done_in t s p c = record {
   starts = s ∷ [];
   answer = p >>= answer_in t c;
@@ -87,5 +87,5 @@ done_in t s p c = record {
 }
 
 -- what is done at the place that a text names
-abbrev pub does_at : Tree → ℕ → List ℕ → (c : EntryOp) → Meant (PlaceAnswer c)
+abbrev pub does_at : Tree → ℕ → List ℕ → (c : EntryOp) → Meant (EntryAnswer c)
 does_at t s text c = done_in t s (place_for t s text c) c

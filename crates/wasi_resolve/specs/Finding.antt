@@ -1,7 +1,7 @@
 -- What a walk is for and what it finds, and what a part of it does over every host: to the handles and to the look-ups.
 use Rattle.std.specs.Prelude.{◌≡◌, ◌≤◌, ◌+◌, ℕ, Bool, true, false, List, length, Option, Some, None, Result, Ok, Err}
 use Rattle.std.specs.FinSet.{contains, insert}
-use Rattle.wasi_host.specs.Lineage.{HasProvenance, Nothing}
+use Rattle.wasi_host.specs.Provenance.{HasProvenance, Nothing}
 use Rattle.wasi_host.specs.HostLaws.{Handles}
 use Rattle.wasi_host.specs.declared.errors.ErrorCode.TheVariants.{Loop, NotDirectory}
 use Rattle.wasi_host.specs.declared.errors.HostError.{HostError}

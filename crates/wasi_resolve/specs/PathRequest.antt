@@ -12,7 +12,7 @@ use Rattle.wasi_host.specs.declared.errors.ErrorCode.TheVariants.{NotDirectory}
 use Rattle.wasi_host.specs.declared.open_handle.OpenHandle.{OpenHandle}
 use Rattle.wasi_host.specs.declared.metadata.Metadata.{Metadata}
 use Rattle.wasi_host.specs.declared.system_time.SystemTime.{SystemTime}
-use Rattle.wasi_resolve.specs.EntryOps.{EntryOp, SetTimes, PlaceAnswer, answer_in, place_for, step_in, ends_in}
+use Rattle.wasi_resolve.specs.EntryOps.{EntryOp, SetTimes, EntryAnswer, answer_in, place_for, step_in, ends_in}
 use Rattle.wasi_resolve.specs.TwoPathOps.{TwoPathOp, places_for, asks_directory, answer_at_two, step_at_two, ends_at_two}
 use Rattle.wasi_resolve.specs.Meanings.{ends_by, opened_node}
 use Rattle.wasi_resolve.specs.Paths.{Opening, opening, after_open, looked, timed}
@@ -24,7 +24,7 @@ pub data PathRequest : Type 0 where
   -- look: the start, the text, whether a last link is followed
   LookPath : ℕ → List ℕ → Bool → PathRequest
   -- do something at the place that the text names: the start, the text, what
-  AtPlace : ℕ → List ℕ → EntryOp → PathRequest
+  AtEntry : ℕ → List ℕ → EntryOp → PathRequest
   -- set times: the start, the text, whether a last link is followed, the times of the last read and the last change
   TimesPath : ℕ → List ℕ → Bool → Option SystemTime → Option SystemTime → PathRequest
   -- do something at two places: the old start and text, the new ones, what
@@ -39,7 +39,7 @@ pub record Opened : Type 0 where
 abbrev pub PathReply : PathRequest → Type 0
 PathReply (OpenPath s text o follow directory) = Opened
 PathReply (LookPath s text follow) = Metadata
-PathReply (AtPlace s text what) = PlaceAnswer what
+PathReply (AtEntry s text what) = EntryAnswer what
 PathReply (TimesPath s text follow atime mtime) = Unit {0}
 PathReply (AtTwo old old_text new new_text what) = Unit {0}
 
@@ -60,7 +60,7 @@ as_asked directory found = if directory && not found.is_dir then Err NotDirector
 abbrev pub path_reply : Tree → (r : PathRequest) → Result (PathReply r) ErrorCode
 path_reply t (OpenPath s text o follow directory) = opening t s text o follow >>= answer_at t >>= as_asked directory
 path_reply t (LookPath s text follow) = looked t s text follow >>= (λ n. Ok (metadata_of t n))
-path_reply t (AtPlace s text what) = place_for t s text what >>= answer_in t what
+path_reply t (AtEntry s text what) = place_for t s text what >>= answer_in t what
 path_reply t (TimesPath s text true atime mtime) = timed t s text >>= (λ held. Ok tt)
 path_reply t (TimesPath s text false atime mtime) =
     place_for t s text (SetTimes atime mtime) >>= answer_in t (SetTimes atime mtime)
@@ -76,7 +76,7 @@ times_through t atime mtime (Err code) = t
 abbrev pub path_after : Tree → PathRequest → Tree
 path_after t (OpenPath s text o follow directory) = after_open t s text o follow
 path_after t (LookPath s text follow) = t
-path_after t (AtPlace s text what) = step_in t what (place_for t s text what)
+path_after t (AtEntry s text what) = step_in t what (place_for t s text what)
 path_after t (TimesPath s text true atime mtime) = times_through t atime mtime (timed t s text)
 path_after t (TimesPath s text false atime mtime) =
     step_in t (SetTimes atime mtime) (place_for t s text (SetTimes atime mtime))
@@ -87,7 +87,7 @@ path_after t (AtTwo old old_text new new_text what) =
 abbrev pub path_starts : PathRequest → List ℕ
 path_starts (OpenPath s text o follow directory) = s ∷ []
 path_starts (LookPath s text follow) = s ∷ []
-path_starts (AtPlace s text what) = s ∷ []
+path_starts (AtEntry s text what) = s ∷ []
 path_starts (TimesPath s text follow atime mtime) = s ∷ []
 path_starts (AtTwo old old_text new new_text what) = old ∷ new ∷ []
 
@@ -95,7 +95,7 @@ path_starts (AtTwo old old_text new new_text what) = old ∷ new ∷ []
 abbrev pub path_ends : Tree → PathRequest → List ℕ
 path_ends t (OpenPath s text o follow directory) = ends_by (opened_node t) (opening t s text o follow)
 path_ends t (LookPath s text follow) = ends_by (λ n. n) (looked t s text follow)
-path_ends t (AtPlace s text what) =
+path_ends t (AtEntry s text what) =
     ends_in t (step_in t what (place_for t s text what)) (place_for t s text what)
 path_ends t (TimesPath s text true atime mtime) = ends_by (λ held. held.node) (timed t s text)
 path_ends t (TimesPath s text false atime mtime) =
@@ -107,7 +107,7 @@ path_ends t (AtTwo old old_text new new_text what) =
 abbrev pub path_gives : (r : PathRequest) → PathReply r → List ℕ
 path_gives (OpenPath s text o follow directory) found = found.held.node ∷ []
 path_gives (LookPath s text follow) metadata = []
-path_gives (AtPlace s text what) answer = []
+path_gives (AtEntry s text what) answer = []
 path_gives (TimesPath s text follow atime mtime) answer = []
 path_gives (AtTwo old old_text new new_text what) answer = []
 

@@ -6,7 +6,7 @@ use Rattle.wasi_host.specs.Agree.{Touches}
 use Rattle.wasi_host.specs.Answer.{HostAnswer, host_answer}
 use Rattle.wasi_host.specs.HostCall.{HostCall}
 use Rattle.wasi_host.specs.Step.{step, starts_of}
-use Rattle.wasi_host.specs.HostLaws.{World, Handles, Means}
+use Rattle.wasi_host.specs.HostLaws.{HostModel, Handles, Means}
 use Rattle.wasi_host.specs.declared.errors.ErrorCode.{ErrorCode}
 use Rattle.wasi_host.specs.declared.errors.ErrorCode.TheVariants.{Io}
 use Rattle.wasi_host.specs.declared.errors.HostError.{HostError}
@@ -78,7 +78,7 @@ call_meant t call ends =
 -- The answer is the one that is meant, unless memory was wanted or the host failed; the tree is as before, or after the
 -- one step where it is answered; what is touched is reached from the starts, or was made; handles that were live keep
 -- what they stand for.
-pub record Resolved {A B : Type 0} (live : Handles) (w v : World) (meant : Meant B) (shown : A → B)
+pub record Resolved {A B : Type 0} (live : Handles) (w v : HostModel) (meant : Meant B) (shown : A → B)
     (result : Result A HostError) : Type 0 where
   pub answer : Means shown meant.answer result
   pub tree : TreeAfter w.tree meant.stepped v.tree meant.answer result

@@ -1,7 +1,7 @@
 -- Two places that were found, as contracts see them.
 use Rattle.std.specs.Prelude.{ℕ, List, [], ◌∷◌, Result, Ok, Err}
 use Rattle.wasi_host.specs.Tree.{Tree}
-use Rattle.wasi_host.specs.Lineage.{HasProvenance, OneOf, Nothing}
+use Rattle.wasi_host.specs.Provenance.{HasProvenance, OneOf, Nothing}
 use Rattle.wasi_host.specs.HostLaws.{Handles}
 use Rattle.wasi_host.specs.declared.errors.HostError.{HostError}
 use Rattle.wasi_host.specs.declared.open_handle.OpenHandle.{OpenHandle}

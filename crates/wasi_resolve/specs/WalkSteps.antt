@@ -12,7 +12,7 @@ use Rattle.wasi_host.specs.Answer as host
 use Rattle.wasi_host.specs.Answer.{reached, link_text, metadata_of}
 use Rattle.wasi_host.specs.Step.{open_step}
 use Rattle.wasi_host.specs.Steps.{◌>>=◌}
-use Rattle.wasi_host.specs.HostLaws.{World, Handles}
+use Rattle.wasi_host.specs.HostLaws.{HostModel, Handles}
 use Rattle.wasi_host.specs.declared.errors.ErrorCode.{ErrorCode}
 use Rattle.wasi_host.specs.declared.errors.ErrorCode.TheVariants.{Io}
 use Rattle.wasi_host.specs.declared.errors.HostError.{HostError}
@@ -39,13 +39,13 @@ use Rattle.wasi_resolve.specs.declared.found.Stop.TheVariants as stops
 -- ---- calls that leave the tree
 
 -- The tree stays, handles that were live keep what they stand for, and what is touched is reached from these nodes.
-pub record OnlyLooks (live : Handles) (w v : World) (starts : List ℕ) : Type 0 where
+pub record OnlyLooks (live : Handles) (w v : HostModel) (starts : List ℕ) : Type 0 where
   pub tree : v.tree ≡ w.tree
   pub touched : Touches w.tree w.tree starts [] w.touched v.touched
   pub keeps : (h : ℕ) → contains live h ≡ true → v.held h ≡ w.held h
 
 -- The tree and what is touched stay, and handles that were live keep what they stand for.
-pub record WorldStays (live : Handles) (w v : World) : Type 0 where
+pub record ModelStays (live : Handles) (w v : HostModel) : Type 0 where
   pub tree : v.tree ≡ w.tree
   pub touched : v.touched ≡ w.touched
   pub keeps : (h : ℕ) → contains live h ≡ true → v.held h ≡ w.held h
@@ -97,7 +97,7 @@ AreReached t s [] = Unit {0}
 AreReached t s (n ∷ nodes) = Reached t (s ∷ []) n × AreReached t s nodes
 
 -- Nothing has changed but what is touched, and each node of the stack is reached from the start.
-pub record Walked (live : Handles) (w v : World) (start : ℕ) (stack : List ℕ) : Type 0 where
+pub record Walked (live : Handles) (w v : HostModel) (start : ℕ) (stack : List ℕ) : Type 0 where
   pub looks : OnlyLooks live w v ((w.held start).node ∷ [])
   pub near : AreReached w.tree (w.held start).node (nodes_under v.held stack)
 
@@ -125,31 +125,31 @@ pub record IsRefused (t : Tree) (s : ℕ) (parts : List Component) (nodes : List
 
 -- the walk goes on
 pub record GoesOn (b : Begin) (a c : Way) : Type 0 where
-  pub walked : Walked b.live b.world c.world b.start c.stack
-  pub same : SameWalk b.world.tree (origin b) a.left (way_nodes a) c.left (way_nodes c)
+  pub walked : Walked b.live b.model c.model b.start c.stack
+  pub same : SameWalk b.model.tree (origin b) a.left (way_nodes a) c.left (way_nodes c)
 
 -- it stops at a last name
 pub record AtLast (b : Begin) (a c : Way) (name : List ℕ) : Type 0 where
-  pub walked : Walked b.live b.world c.world b.start c.stack
-  pub same : SameWalk b.world.tree (origin b) a.left (way_nodes a) (Normal name ∷ c.left) (way_nodes c)
+  pub walked : Walked b.live b.model c.model b.start c.stack
+  pub same : SameWalk b.model.tree (origin b) a.left (way_nodes a) (Normal name ∷ c.left) (way_nodes c)
   pub none : c.left ≡ []
 
 -- it stops at a link
 pub record AtLink (b : Begin) (a c : Way) (name : List ℕ) : Type 0 where
-  pub walked : Walked b.live b.world c.world b.start c.stack
-  pub same : SameWalk b.world.tree (origin b) a.left (way_nodes a) (Normal name ∷ c.left) (way_nodes c)
+  pub walked : Walked b.live b.model c.model b.start c.stack
+  pub same : SameWalk b.model.tree (origin b) a.left (way_nodes a) (Normal name ∷ c.left) (way_nodes c)
   pub linked : (aim : Aim) (follow slash : Bool) (m : ℕ)
-      → leg_nodes b.world.tree (origin b) aim follow slash m (Normal name ∷ c.left) (way_nodes c)
-      ≡ Linked (suc m) (way_nodes c) (link_text b.world.tree (top (origin b) (way_nodes c)) name) c.left
-  pub free : refusal b.world.tree (ReadLinkAt (top (origin b) (way_nodes c)) name) ≡ None
+      → leg_nodes b.model.tree (origin b) aim follow slash m (Normal name ∷ c.left) (way_nodes c)
+      ≡ Linked (suc m) (way_nodes c) (link_text b.model.tree (top (origin b) (way_nodes c)) name) c.left
+  pub free : refusal b.model.tree (ReadLinkAt (top (origin b) (way_nodes c)) name) ≡ None
 
 -- it fails at a part
 pub record Fails (b : Begin) (a c : Way) (e : HostError) : Type 0 where
-  pub looks : OnlyLooks b.live b.world c.world (origin b ∷ [])
+  pub looks : OnlyLooks b.live b.model c.model (origin b ∷ [])
   pub part : Component
   pub nodes : List ℕ
-  pub same : SameWalk b.world.tree (origin b) a.left (way_nodes a) (part ∷ c.left) nodes
-  pub refused : IsFault e ⊎ IsRefused b.world.tree (origin b) (part ∷ c.left) nodes e
+  pub same : SameWalk b.model.tree (origin b) a.left (way_nodes a) (part ∷ c.left) nodes
+  pub refused : IsFault e ⊎ IsRefused b.model.tree (origin b) (part ∷ c.left) nodes e
 
 abbrev pub StopsAt : Begin → Way → Way → stopping.Stop → Type 0
 StopsAt b a c stops.Dot = GoesOn b a c × (c.left ≡ [])
@@ -177,42 +177,42 @@ is_met_link t d name o may_read =
     holds t d name (λ n. is_link n.content) && (may_read && is_link_code (refusal t (OpenAt d name o)))
 
 -- no link is read, and the answer is that of the open
-pub record OpensUnread (live : Handles) (w u : World) (d : ℕ) (name : List ℕ) (o : Options) (may_read : Bool)
+pub record OpensUnread (live : Handles) (w u : HostModel) (d : ℕ) (name : List ℕ) (o : Options) (may_read : Bool)
     (result : Result ℕ HostError) : Type 0 where
   pub unread : is_met_link w.tree d name o may_read ≡ false
   pub resolved : Resolved live w u (open_meant w.tree d name o) u.held result
 
-pub record MeetsLink (live : Handles) (w u : World) (d : ℕ) (name : List ℕ) (o : Options)
+pub record MeetsLink (live : Handles) (w u : HostModel) (d : ℕ) (name : List ℕ) (o : Options)
     (may_read : Bool) : Type 0 where
   pub reads : is_met_link w.tree d name o may_read ≡ true
   pub looks : OnlyLooks live w u (d ∷ [])
 
-abbrev pub Enters : Handles → World → World → ℕ → List ℕ → Options → Bool → Result (Option ℕ) HostError → Type 0
+abbrev pub Enters : Handles → HostModel → HostModel → ℕ → List ℕ → Options → Bool → Result (Option ℕ) HostError → Type 0
 Enters live w u d name o may_read (Ok (Some h)) = OpensUnread live w u d name o may_read (Ok h)
 Enters live w u d name o may_read (Ok None) = MeetsLink live w u d name o may_read
 Enters live w u d name o may_read (Err e) =
     (OnlyLooks live w u (d ∷ []) × IsFault e) ⊎ OpensUnread live w u d name o may_read (Err e)
 
 -- the last name isn't read, and the answer is what the walk means that ends there
-pub record EndsUnread (live : Handles) (w u : World) (d : ℕ) (k : Course) (name : List ℕ)
+pub record EndsUnread (live : Handles) (w u : HostModel) (d : ℕ) (k : Course) (name : List ℕ)
     (result : Result Found HostError) : Type 0 where
   pub unread : is_to_be_read w.tree k.aim k.follow k.slash true d name ≡ false
   pub resolved : Resolved live w u (meant_at w.tree k.aim d (Name d name k.slash)) (shown_found u.held) result
 
-pub record EndsAtLink (live : Handles) (w u : World) (d : ℕ) (k : Course) (name found : List ℕ) : Type 0 where
+pub record EndsAtLink (live : Handles) (w u : HostModel) (d : ℕ) (k : Course) (name found : List ℕ) : Type 0 where
   pub reads : is_to_be_read w.tree k.aim k.follow k.slash true d name ≡ true
   pub free : refusal w.tree (ReadLinkAt d name) ≡ None
   pub looks : OnlyLooks live w u (d ∷ [])
   pub same : found ≡ name
 
-abbrev pub EndsAtName : Handles → World → World → ℕ → Course → List ℕ → Result Reach HostError → Type 0
+abbrev pub EndsAtName : Handles → HostModel → HostModel → ℕ → Course → List ℕ → Result Reach HostError → Type 0
 EndsAtName live w u d k name (Ok (reach.Found it)) = EndsUnread live w u d k name (Ok it)
 EndsAtName live w u d k name (Ok (reach.Link other)) = EndsAtLink live w u d k name other.text.now
 EndsAtName live w u d k name (Err e) = (OnlyLooks live w u (d ∷ []) × IsFault e) ⊎ EndsUnread live w u d k name (Err e)
 
 -- ---- a directory
 
-abbrev pub EndsInDirectory : Handles → World → World → ℕ → Aim → Result Found HostError → Type 0
+abbrev pub EndsInDirectory : Handles → HostModel → HostModel → ℕ → Aim → Result Found HostError → Type 0
 EndsInDirectory live w u d aim result = Resolved live w u (meant_at w.tree aim d (Dot d)) (shown_found u.held) result
 
 -- ---- the parts up to the next link
@@ -233,21 +233,21 @@ pub record ReachesEnd (b : Begin) (k : Course) (m : ℕ) (a c : Way) (result : R
   pub count : taken + length c.left ≡ m + length a.left
   pub outcome : Outcome
   pub ends : leg_from b k m a ≡ Ended taken outcome
-  pub resolved : Resolved b.live b.world c.world (meant_at b.world.tree k.aim (origin b) outcome)
-      (shown_found c.world.held) result
+  pub resolved : Resolved b.live b.model c.model (meant_at b.model.tree k.aim (origin b) outcome)
+      (shown_found c.model.held) result
 
 -- it comes to a link
 pub record ReachesLink (b : Begin) (k : Course) (m : ℕ) (a c : Way) (name : List ℕ) : Type 0 where
-  pub walked : Walked b.live b.world c.world b.start c.stack
+  pub walked : Walked b.live b.model c.model b.start c.stack
   pub taken : ℕ
   pub count : taken + length c.left ≡ m + length a.left
   pub linked : leg_from b k m a
-      ≡ Linked taken (way_nodes c) (link_text b.world.tree (top (origin b) (way_nodes c)) name) c.left
-  pub free : refusal b.world.tree (ReadLinkAt (top (origin b) (way_nodes c)) name) ≡ None
+      ≡ Linked taken (way_nodes c) (link_text b.model.tree (top (origin b) (way_nodes c)) name) c.left
+  pub free : refusal b.model.tree (ReadLinkAt (top (origin b) (way_nodes c)) name) ≡ None
 
 -- the host fails, or memory is wanted, at one of its parts
 pub record ReachFails (b : Begin) (k : Course) (m : ℕ) (a c : Way) (e : HostError) : Type 0 where
-  pub looks : OnlyLooks b.live b.world c.world (origin b ∷ [])
+  pub looks : OnlyLooks b.live b.model c.model (origin b ∷ [])
   pub fault : IsFault e
   pub taken : ℕ
   pub count : taken + length c.left ≡ m + length a.left
@@ -261,18 +261,18 @@ Reaches b k m a c (Err e) = ReachFails b k m a c e ⊎ ReachesEnd b k m a c (Err
 -- ---- a link
 
 -- it was read: the parts left and the slash before, and those behind it
-pub record ReadsText (live : Handles) (w u : World) (at : Place) (before left : List Component)
+pub record ReadsText (live : Handles) (w u : HostModel) (at : Place) (before left : List Component)
     (slash slash' : Bool) : Type 0 where
   pub looks : OnlyLooks live w u (at.directory ∷ [])
   pub put : left ≡ texts.parts (link_text w.tree at.directory at.name) ++ before
   pub now : slash' ≡ (slash || adds_slash (link_text w.tree at.directory at.name) before)
 
 -- it fails: where the link isn't refused, by the host alone
-pub record ReadFails (live : Handles) (w u : World) (at : Place) (e : HostError) : Type 0 where
+pub record ReadFails (live : Handles) (w u : HostModel) (at : Place) (e : HostError) : Type 0 where
   pub looks : OnlyLooks live w u (at.directory ∷ [])
   pub fault : refusal w.tree (ReadLinkAt at.directory at.name) ≡ None → IsFault e
 
-abbrev pub ReadsLink : Handles → World → World → Place → List Component → List Component → Bool
+abbrev pub ReadsLink : Handles → HostModel → HostModel → Place → List Component → List Component → Bool
     → Result Bool HostError → Type 0
 ReadsLink live w u at before left slash (Ok slash') = ReadsText live w u at before left slash slash'
 ReadsLink live w u at before left slash (Err e) = ReadFails live w u at e
@@ -285,13 +285,13 @@ pub record EndsPast (b : Begin) (k : Course) (m : ℕ) (a c : Way) (old new : Li
   pub taken : ℕ
   pub outcome : Outcome
   pub ends : leg_from b k m a ≡ Ended taken outcome
-  pub resolved : Resolved b.live b.world c.world (meant_at b.world.tree k.aim (origin b) outcome)
-      (shown_found c.world.held) result
+  pub resolved : Resolved b.live b.model c.model (meant_at b.model.tree k.aim (origin b) outcome)
+      (shown_found c.model.held) result
   pub few : length new + m ≤ length old + taken + 1
 
 -- the link was read, and the walk goes on with the parts of its text
 pub record LinkPast (b : Begin) (k : Course) (m : ℕ) (a c : Way) (old new : List Lookup) (slash : Bool) : Type 0 where
-  pub walked : Walked b.live b.world c.world b.start c.stack
+  pub walked : Walked b.live b.model c.model b.start c.stack
   pub taken : ℕ
   pub text : List ℕ
   pub behind : List Component
@@ -302,7 +302,7 @@ pub record LinkPast (b : Begin) (k : Course) (m : ℕ) (a c : Way) (old new : Li
 
 -- the host fails, or memory is wanted
 pub record FailsPast (b : Begin) (k : Course) (m : ℕ) (a c : Way) (old new : List Lookup) (e : HostError) : Type 0 where
-  pub looks : OnlyLooks b.live b.world c.world (origin b ∷ [])
+  pub looks : OnlyLooks b.live b.model c.model (origin b ∷ [])
   pub fault : IsFault e
   pub few : length new + m ≤ length old + leg_looks (leg_from b k m a)
 
@@ -314,10 +314,10 @@ whole_walk t s aim follow slash left stack = walk_nodes t s aim follow 40 slash 
 
 -- from where a walk stands
 abbrev pub whole_from : Begin → Course → Way → Walk
-whole_from b k a = whole_walk b.world.tree (origin b) k.aim k.follow k.slash a.left (way_nodes a)
+whole_from b k a = whole_walk b.model.tree (origin b) k.aim k.follow k.slash a.left (way_nodes a)
 
 pub record Comes (b : Begin) (k : Course) (a c : Way) (old new : List Lookup)
     (result : Result Found HostError) : Type 0 where
-  pub resolved : Resolved b.live b.world c.world (meant_at b.world.tree k.aim (origin b) (whole_from b k a).outcome)
-      (shown_found c.world.held) result
+  pub resolved : Resolved b.live b.model c.model (meant_at b.model.tree k.aim (origin b) (whole_from b k a).outcome)
+      (shown_found c.model.held) result
   pub bound : length new ≤ length old + walk_looks (whole_from b k a)

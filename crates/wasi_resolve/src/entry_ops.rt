@@ -3,7 +3,7 @@ ghost use Rattle.std.specs.Prelude.{◌≡◌, ◌≤◌, ◌+◌, ◌*◌, ◌<
 ghost use Rattle.std.specs.FinSet.{contains};
 ghost use Rattle.std.specs.String.{string_bytes};
 ghost use Rattle.wasi_host.specs.HostLaws.{HasCause};
-ghost use Rattle.wasi_host.specs.Lineage.{HasProvenance, Only, Nothing};
+ghost use Rattle.wasi_host.specs.Provenance.{HasProvenance, Only, Nothing};
 ghost use Rattle.wasi_host.specs.Numbers.{longest_link};
 ghost use Rattle.wasi_host.specs.declared.errors.ErrorCode.TheVariants as codes;
 ghost use Rattle.wasi_host.specs.declared.errors.HostError.TheVariants.{Code};
@@ -36,13 +36,13 @@ pub fn create_dir<H: Host>(
     requires live { contains (H.live host.old) start ≡ true }
     ensures cause { HasCause (H.faults host.old) (H.faults host.new) result }
     ensures live { H.live host.new ≡ H.live host.old }
-    ensures lineage { HasProvenance (Only start) Nothing Nothing (H.lookups host.old) (H.lookups host.new) }
+    ensures provenance { HasProvenance (Only start) Nothing Nothing (H.lookups host.old) (H.lookups host.new) }
     ensures links { links_read (H.lookups host.new) ≤ links_read (H.lookups host.old) + 40 }
-    ensures told { IsTrue H.told → Resolved (H.live host.old) (H.world host.old) (H.world host.new)
-        (does_at (H.world host.old).tree ((H.world host.old).held start).node path.now CreateDir)
+    ensures modelled { IsTrue H.modelled → Resolved (H.live host.old) (H.model host.old) (H.model host.new)
+        (does_at (H.model host.old).tree ((H.model host.old).held start).node path.now CreateDir)
         (λ unit. unit) result }
-    ensures bound { IsTrue H.told → length (H.lookups host.new) ≤ length (H.lookups host.old)
-        + parent_looks (H.world host.old).tree ((H.world host.old).held start).node (strip_dir_suffix path.now) + 1 }
+    ensures bound { IsTrue H.modelled → length (H.lookups host.new) ≤ length (H.lookups host.old)
+        + parent_looks (H.model host.old).tree ((H.model host.old).held start).node (strip_dir_suffix path.now) + 1 }
 {
     change_at(
         alloc,
@@ -66,13 +66,13 @@ pub fn remove_file<H: Host>(
     requires live { contains (H.live host.old) start ≡ true }
     ensures cause { HasCause (H.faults host.old) (H.faults host.new) result }
     ensures live { H.live host.new ≡ H.live host.old }
-    ensures lineage { HasProvenance (Only start) Nothing Nothing (H.lookups host.old) (H.lookups host.new) }
+    ensures provenance { HasProvenance (Only start) Nothing Nothing (H.lookups host.old) (H.lookups host.new) }
     ensures links { links_read (H.lookups host.new) ≤ links_read (H.lookups host.old) + 40 }
-    ensures told { IsTrue H.told → Resolved (H.live host.old) (H.world host.old) (H.world host.new)
-        (does_at (H.world host.old).tree ((H.world host.old).held start).node path.now RemoveFile)
+    ensures modelled { IsTrue H.modelled → Resolved (H.live host.old) (H.model host.old) (H.model host.new)
+        (does_at (H.model host.old).tree ((H.model host.old).held start).node path.now RemoveFile)
         (λ unit. unit) result }
-    ensures bound { IsTrue H.told → length (H.lookups host.new) ≤ length (H.lookups host.old)
-        + parent_looks (H.world host.old).tree ((H.world host.old).held start).node path.now + 1 }
+    ensures bound { IsTrue H.modelled → length (H.lookups host.new) ≤ length (H.lookups host.old)
+        + parent_looks (H.model host.old).tree ((H.model host.old).held start).node path.now + 1 }
 {
     change_at(alloc, host, start, path, &Change::RemoveFile)
 }
@@ -90,13 +90,13 @@ pub fn remove_dir<H: Host>(
     requires live { contains (H.live host.old) start ≡ true }
     ensures cause { HasCause (H.faults host.old) (H.faults host.new) result }
     ensures live { H.live host.new ≡ H.live host.old }
-    ensures lineage { HasProvenance (Only start) Nothing Nothing (H.lookups host.old) (H.lookups host.new) }
+    ensures provenance { HasProvenance (Only start) Nothing Nothing (H.lookups host.old) (H.lookups host.new) }
     ensures links { links_read (H.lookups host.new) ≤ links_read (H.lookups host.old) + 40 }
-    ensures told { IsTrue H.told → Resolved (H.live host.old) (H.world host.old) (H.world host.new)
-        (does_at (H.world host.old).tree ((H.world host.old).held start).node path.now RemoveDir)
+    ensures modelled { IsTrue H.modelled → Resolved (H.live host.old) (H.model host.old) (H.model host.new)
+        (does_at (H.model host.old).tree ((H.model host.old).held start).node path.now RemoveDir)
         (λ unit. unit) result }
-    ensures bound { IsTrue H.told → length (H.lookups host.new) ≤ length (H.lookups host.old)
-        + parent_looks (H.world host.old).tree ((H.world host.old).held start).node path.now + 1 }
+    ensures bound { IsTrue H.modelled → length (H.lookups host.new) ≤ length (H.lookups host.old)
+        + parent_looks (H.model host.old).tree ((H.model host.old).held start).node path.now + 1 }
 {
     change_at(alloc, host, start, path, &Change::RemoveDir)
 }
@@ -114,16 +114,16 @@ pub fn symlink<H: Host>(
     requires live { contains (H.live host.old) start ≡ true }
     ensures cause { HasCause (H.faults host.old) (H.faults host.new) result }
     ensures live { H.live host.new ≡ H.live host.old }
-    ensures lineage { HasProvenance (Only start) Nothing Nothing (H.lookups host.old) (H.lookups host.new) }
+    ensures provenance { HasProvenance (Only start) Nothing Nothing (H.lookups host.old) (H.lookups host.new) }
     ensures links { links_read (H.lookups host.new) ≤ links_read (H.lookups host.old) + 40 }
     ensures rooted { has_root target.now ≡ true
         → (result ≡ Err (Code codes.NotPermitted)) × (host.new ≡ host.old) }
-    ensures told { IsTrue H.told → has_root target.now ≡ false
-        → Resolved (H.live host.old) (H.world host.old) (H.world host.new)
-        (does_at (H.world host.old).tree ((H.world host.old).held start).node path.now (Symlink target.now))
+    ensures modelled { IsTrue H.modelled → has_root target.now ≡ false
+        → Resolved (H.live host.old) (H.model host.old) (H.model host.new)
+        (does_at (H.model host.old).tree ((H.model host.old).held start).node path.now (Symlink target.now))
         (λ unit. unit) result }
-    ensures bound { IsTrue H.told → length (H.lookups host.new) ≤ length (H.lookups host.old)
-        + parent_looks (H.world host.old).tree ((H.world host.old).held start).node path.now + 1 }
+    ensures bound { IsTrue H.modelled → length (H.lookups host.new) ≤ length (H.lookups host.old)
+        + parent_looks (H.model host.old).tree ((H.model host.old).held start).node path.now + 1 }
 {
     if has_root(target) {
         return Err(HostError::Code(ErrorCode::NotPermitted));
@@ -146,13 +146,13 @@ pub fn set_times_nofollow<H: Host>(
     requires live { contains (H.live host.old) start ≡ true }
     ensures cause { HasCause (H.faults host.old) (H.faults host.new) result }
     ensures live { H.live host.new ≡ H.live host.old }
-    ensures lineage { HasProvenance (Only start) Nothing Nothing (H.lookups host.old) (H.lookups host.new) }
+    ensures provenance { HasProvenance (Only start) Nothing Nothing (H.lookups host.old) (H.lookups host.new) }
     ensures links { links_read (H.lookups host.new) ≤ links_read (H.lookups host.old) + 40 }
-    ensures told { IsTrue H.told → Resolved (H.live host.old) (H.world host.old) (H.world host.new)
-        (does_at (H.world host.old).tree ((H.world host.old).held start).node path.now (SetTimes atime mtime))
+    ensures modelled { IsTrue H.modelled → Resolved (H.live host.old) (H.model host.old) (H.model host.new)
+        (does_at (H.model host.old).tree ((H.model host.old).held start).node path.now (SetTimes atime mtime))
         (λ unit. unit) result }
-    ensures bound { IsTrue H.told → length (H.lookups host.new) ≤ length (H.lookups host.old)
-        + parent_looks (H.world host.old).tree ((H.world host.old).held start).node path.now + 1 }
+    ensures bound { IsTrue H.modelled → length (H.lookups host.new) ≤ length (H.lookups host.old)
+        + parent_looks (H.model host.old).tree ((H.model host.old).held start).node path.now + 1 }
 {
     change_at(alloc, host, start, path, &Change::SetTimes(atime, mtime))
 }
@@ -179,11 +179,11 @@ fn change_in<H: Host>(
     requires { contains (H.live host.old) directory ≡ true }
     ensures cause { HasCause (H.faults host.old) (H.faults host.new) result }
     ensures live { H.live host.new ≡ H.live host.old }
-    ensures lineage { HasProvenance (Only directory) Nothing Nothing (H.lookups host.old) (H.lookups host.new) }
+    ensures provenance { HasProvenance (Only directory) Nothing Nothing (H.lookups host.old) (H.lookups host.new) }
     ensures reads { FewReads 1 0 (H.lookups host.old) (H.lookups host.new) }
-    ensures told { IsTrue H.told → Resolved (H.live host.old) (H.world host.old) (H.world host.new)
-        (done_in (H.world host.old).tree ((H.world host.old).held directory).node
-        (Ok (record { directory = ((H.world host.old).held directory).node; name = name_bytes name.entry }))
+    ensures modelled { IsTrue H.modelled → Resolved (H.live host.old) (H.model host.old) (H.model host.new)
+        (done_in (H.model host.old).tree ((H.model host.old).held directory).node
+        (Ok (record { directory = ((H.model host.old).held directory).node; name = name_bytes name.entry }))
         (change_call change.now))
         (change_done change.now) result }
 {
@@ -207,14 +207,14 @@ fn change_at<H: Host>(
     requires live { contains (H.live host.old) start ≡ true }
     ensures cause { HasCause (H.faults host.old) (H.faults host.new) result }
     ensures live { H.live host.new ≡ H.live host.old }
-    ensures lineage { HasProvenance (Only start) Nothing Nothing (H.lookups host.old) (H.lookups host.new) }
+    ensures provenance { HasProvenance (Only start) Nothing Nothing (H.lookups host.old) (H.lookups host.new) }
     ensures links { links_read (H.lookups host.new) ≤ links_read (H.lookups host.old) + 40 }
-    ensures told { IsTrue H.told → Resolved (H.live host.old) (H.world host.old) (H.world host.new)
-        (done_in (H.world host.old).tree ((H.world host.old).held start).node
-        (place (H.world host.old).tree ((H.world host.old).held start).node path.now) (change_call change.now))
+    ensures modelled { IsTrue H.modelled → Resolved (H.live host.old) (H.model host.old) (H.model host.new)
+        (done_in (H.model host.old).tree ((H.model host.old).held start).node
+        (place (H.model host.old).tree ((H.model host.old).held start).node path.now) (change_call change.now))
         (change_done change.now) result }
-    ensures bound { IsTrue H.told → length (H.lookups host.new) ≤ length (H.lookups host.old)
-        + parent_looks (H.world host.old).tree ((H.world host.old).held start).node path.now + 1 }
+    ensures bound { IsTrue H.modelled → length (H.lookups host.new) ≤ length (H.lookups host.old)
+        + parent_looks (H.model host.old).tree ((H.model host.old).held start).node path.now + 1 }
 {
     let place = match open_parent(alloc, host, start, path) {
         Ok(place) => place,
@@ -237,16 +237,16 @@ pub fn read_link<H: Host>(
     requires live { contains (H.live host.old) start ≡ true }
     ensures cause { HasCause (H.faults host.old) (H.faults host.new) result }
     ensures live { H.live host.new ≡ H.live host.old }
-    ensures lineage { HasProvenance (Only start) Nothing Nothing (H.lookups host.old) (H.lookups host.new) }
+    ensures provenance { HasProvenance (Only start) Nothing Nothing (H.lookups host.old) (H.lookups host.new) }
     ensures links { links_read (H.lookups host.new) ≤ links_read (H.lookups host.old) + 41 }
     ensures some { IfOk result (λ text. 0 < length (string_bytes text)) }
     ensures most { IfOk result (λ text. length (string_bytes text) ≤ longest_link) }
     ensures unrooted { IfOk result (λ text. has_root (string_bytes text) ≡ false) }
-    ensures told { IsTrue H.told → Resolved (H.live host.old) (H.world host.old) (H.world host.new)
-        (does_at (H.world host.old).tree ((H.world host.old).held start).node path.now ReadLink)
+    ensures modelled { IsTrue H.modelled → Resolved (H.live host.old) (H.model host.old) (H.model host.new)
+        (does_at (H.model host.old).tree ((H.model host.old).held start).node path.now ReadLink)
         (λ text. string_bytes text) result }
-    ensures bound { IsTrue H.told → length (H.lookups host.new) ≤ length (H.lookups host.old)
-        + parent_looks (H.world host.old).tree ((H.world host.old).held start).node path.now + 1 }
+    ensures bound { IsTrue H.modelled → length (H.lookups host.new) ≤ length (H.lookups host.old)
+        + parent_looks (H.model host.old).tree ((H.model host.old).held start).node path.now + 1 }
 {
     let place = match open_parent(alloc, host, start, path) {
         Ok(place) => place,
@@ -267,14 +267,14 @@ fn unrooted_link_at<H: Host>(
     requires { contains (H.live host.old) directory ≡ true }
     ensures cause { HasCause (H.faults host.old) (H.faults host.new) result }
     ensures live { H.live host.new ≡ H.live host.old }
-    ensures lineage { HasProvenance (Only directory) Nothing Nothing (H.lookups host.old) (H.lookups host.new) }
+    ensures provenance { HasProvenance (Only directory) Nothing Nothing (H.lookups host.old) (H.lookups host.new) }
     ensures reads { FewReads 1 1 (H.lookups host.old) (H.lookups host.new) }
     ensures some { IfOk result (λ text. 0 < length (string_bytes text)) }
     ensures most { IfOk result (λ text. length (string_bytes text) ≤ longest_link) }
     ensures unrooted { IfOk result (λ text. has_root (string_bytes text) ≡ false) }
-    ensures told { IsTrue H.told → Resolved (H.live host.old) (H.world host.old) (H.world host.new)
-        (done_in (H.world host.old).tree ((H.world host.old).held directory).node
-        (Ok (record { directory = ((H.world host.old).held directory).node; name = name_bytes name.entry })) ReadLink)
+    ensures modelled { IsTrue H.modelled → Resolved (H.live host.old) (H.model host.old) (H.model host.new)
+        (done_in (H.model host.old).tree ((H.model host.old).held directory).node
+        (Ok (record { directory = ((H.model host.old).held directory).node; name = name_bytes name.entry })) ReadLink)
         (λ text. string_bytes text) result }
 {
     let text = host.read_link_at(alloc, directory, name)?;

@@ -4,7 +4,7 @@ ghost use Rattle.std.specs.FinSet.{contains};
 ghost use Rattle.wasi_paths.specs.Text.{is_entry_name};
 ghost use Rattle.wasi_host.specs.Answer.{entry_of};
 ghost use Rattle.wasi_host.specs.HostLaws.{HasCause};
-ghost use Rattle.wasi_host.specs.Lineage.{HasProvenance, Only, Nothing};
+ghost use Rattle.wasi_host.specs.Provenance.{HasProvenance, Only, Nothing};
 ghost use Rattle.wasi_resolve.specs.Meanings.{lists_at, listing_options};
 ghost use Rattle.wasi_resolve.specs.Resolved.{Resolved};
 
@@ -27,10 +27,10 @@ pub fn read_dir<H: Host>(
     requires live { contains (H.live host.old) directory ≡ true }
     ensures cause { HasCause (H.faults host.old) (H.faults host.new) result }
     ensures live { H.live host.new ≡ H.live host.old }
-    ensures lineage { HasProvenance (Only directory) Nothing Nothing (H.lookups host.old) (H.lookups host.new) }
+    ensures provenance { HasProvenance (Only directory) Nothing Nothing (H.lookups host.old) (H.lookups host.new) }
     ensures names { IfOk result (λ entries. All (λ entry. IsTrue (is_entry_name entry.0)) (map entry_of entries.items)) }
-    ensures told { IsTrue H.told → Resolved (H.live host.old) (H.world host.old) (H.world host.new)
-        (lists_at (H.world host.old).tree ((H.world host.old).held directory).node)
+    ensures modelled { IsTrue H.modelled → Resolved (H.live host.old) (H.model host.old) (H.model host.new)
+        (lists_at (H.model host.old).tree ((H.model host.old).held directory).node)
         (λ entries. map entry_of entries.items) result }
     ensures bound { length (H.lookups host.new) ≤ length (H.lookups host.old) + 2 }
 {

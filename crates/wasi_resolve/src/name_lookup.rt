@@ -1,8 +1,8 @@
 //! One name in a directory, as a walk meets it.
 ghost use Rattle.std.specs.Prelude.{◌≡◌, ◌∷◌, ◌&&◌, ◌||◌, not, true, false, IsTrue, List};
 ghost use Rattle.std.specs.FinSet.{contains};
-ghost use Rattle.wasi_host.specs.HostLaws.{HasCause, World};
-ghost use Rattle.wasi_host.specs.Lineage.{HasProvenance, Only, Nothing};
+ghost use Rattle.wasi_host.specs.HostLaws.{HasCause, HostModel};
+ghost use Rattle.wasi_host.specs.Provenance.{HasProvenance, Only, Nothing};
 ghost use Rattle.wasi_paths.specs.Text.{is_plain};
 ghost use Rattle.wasi_paths.specs.Name.{name_bytes};
 ghost use Rattle.wasi_paths.specs.Parts.{Component, Normal};
@@ -100,12 +100,12 @@ pub(crate) fn open_or_link<H: Host>(
     requires plain { IsTrue (is_plain (name_bytes name)) }
     ensures cause { HasCause (H.faults host.old) (H.faults host.new) result }
     ensures live { LiveWith (H.live host.old) (handle_entered result) (H.live host.new) }
-    ensures lineage { HasProvenance (Only here) Nothing (IsGot (handle_entered result)) (H.lookups host.old) (H.lookups host.new) }
+    ensures provenance { HasProvenance (Only here) Nothing (IsGot (handle_entered result)) (H.lookups host.old) (H.lookups host.new) }
     ensures last { IsLast (handle_entered result) (H.lookups host.new) }
     ensures reads { ReadsOnce (H.lookups host.old) (H.lookups host.new) result }
     ensures once { options.now.dir_required ≡ false → FewReads 1 0 (H.lookups host.old) (H.lookups host.new) }
-    ensures told { IsTrue H.told → Enters (H.live host.old) (H.world host.old) (H.world host.new)
-        ((H.world host.old).held here).node (name_bytes name.entry) options.now may_read result }
+    ensures modelled { IsTrue H.modelled → Enters (H.live host.old) (H.model host.old) (H.model host.new)
+        ((H.model host.old).held here).node (name_bytes name.entry) options.now may_read result }
 {
     let refused = match host.open_at(here, name, options) {
         Ok(handle) => return Ok(Some(handle)),
@@ -160,14 +160,14 @@ pub(crate) fn go_down<'p, H: Host>(
     requires { (first : _) × Stands first (H.live host.old) start stack.old.items }
     ensures cause { HasCause (H.faults host.old) (H.faults host.new) result }
     ensures stands { StillStands start (H.live host.old) stack.old.items (H.live host.new) stack.new.items }
-    ensures lineage { StackTraced start stack.old.items stack.new.items (H.lookups host.old) (H.lookups host.new) }
+    ensures provenance { StackTraced start stack.old.items stack.new.items (H.lookups host.old) (H.lookups host.new) }
     ensures reads { ReadsBy (H.lookups host.old) (H.lookups host.new) result }
-    ensures told { IsTrue H.told → (first : _) (w : World) (next : Component) (rest : List Component)
+    ensures modelled { IsTrue H.modelled → (first : _) (w : HostModel) (next : Component) (rest : List Component)
         → Stands first (H.live host.old) start stack.old.items
-        → Walked first w (H.world host.old) start stack.old.items
+        → Walked first w (H.model host.old) start stack.old.items
         → TakesPart (begin first w start)
-        (way (H.world host.old) stack.old.items (Normal name.entry.text.now ∷ next ∷ rest))
-        (way (H.world host.new) stack.new.items (next ∷ rest)) result }
+        (way (H.model host.old) stack.old.items (Normal name.entry.text.now ∷ next ∷ rest))
+        (way (H.model host.new) stack.new.items (next ∷ rest)) result }
 {
     stack.reserve(1)?;
     let here = top_of(start, stack);
@@ -193,11 +193,11 @@ pub(crate) fn at_last<'p, H: Host>(
     ensures cause { HasCause (H.faults host.old) (H.faults host.new) result }
     ensures live { LiveWith (H.live host.old) (handle_reached result) (H.live host.new) }
     ensures for_aim { FoundAs aim.now result }
-    ensures lineage { HasProvenance (Only here) Nothing (IsGot (handle_reached result)) (H.lookups host.old) (H.lookups host.new) }
+    ensures provenance { HasProvenance (Only here) Nothing (IsGot (handle_reached result)) (H.lookups host.old) (H.lookups host.new) }
     ensures last { IsLast (handle_reached result) (H.lookups host.new) }
     ensures reads { FewReads 2 0 (H.lookups host.old) (H.lookups host.new) }
-    ensures told { IsTrue H.told → EndsAtName (H.live host.old) (H.world host.old) (H.world host.new)
-        ((H.world host.old).held here).node (course_of aim.now slash) name.entry.text.now result }
+    ensures modelled { IsTrue H.modelled → EndsAtName (H.live host.old) (H.model host.old) (H.model host.new)
+        ((H.model host.old).held here).node (course_of aim.now slash) name.entry.text.now result }
 {
     match aim {
         Aim::Open(options) => {

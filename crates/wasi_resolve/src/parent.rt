@@ -2,7 +2,7 @@
 ghost use Rattle.std.specs.Prelude.{◌≡◌, ◌≤◌, ◌+◌, true, IsTrue, IfOk, length};
 ghost use Rattle.std.specs.FinSet.{contains};
 ghost use Rattle.wasi_host.specs.HostLaws.{HasCause};
-ghost use Rattle.wasi_host.specs.Lineage.{HasProvenance, Only, Nothing};
+ghost use Rattle.wasi_host.specs.Provenance.{HasProvenance, Only, Nothing};
 ghost use Rattle.wasi_paths.specs.Name.{name_bytes};
 ghost use Rattle.wasi_paths.specs.Part.{component};
 ghost use Rattle.wasi_paths.specs.Parts.{is_empty};
@@ -10,7 +10,7 @@ ghost use Rattle.wasi_paths.specs.TextLaws.{IsLastPart};
 ghost use Rattle.wasi_resolve.specs.Paths.{part_text};
 ghost use Rattle.wasi_resolve.specs.Resolved.{links_read, Resolved};
 ghost use Rattle.wasi_resolve.specs.Parents.{directory_of, is_borrowed, parent_looks, parent_text, places_at, released, shown_place, GotParent, LastIn, LiveParent};
-ghost use Rattle.wasi_resolve.specs.WalkSteps.{WorldStays};
+ghost use Rattle.wasi_resolve.specs.WalkSteps.{ModelStays};
 
 use crate::resolver::open_dir;
 use crate::walk::is_empty;
@@ -43,8 +43,8 @@ impl MaybeOwned {
         ensures faults { H.faults host.new ≡ H.faults host.old }
         ensures live { H.live host.new ≡ released (H.live host.old) self }
         ensures logged { H.lookups host.new ≡ H.lookups host.old }
-        ensures told { IsTrue H.told
-            → WorldStays (released (H.live host.old) self) (H.world host.old) (H.world host.new) }
+        ensures modelled { IsTrue H.modelled
+            → ModelStays (released (H.live host.old) self) (H.model host.old) (H.model host.new) }
     {
         match self {
             MaybeOwned::Borrowed(_) => {}
@@ -92,16 +92,16 @@ pub fn open_parent<'p, H: Host>(
     ensures live { LiveParent start (H.live host.old) result (H.live host.new) }
     ensures held { IfOk result (λ parent. contains (H.live host.new) (directory_of parent.directory) ≡ true) }
     ensures closes { IfOk result (λ parent. released (H.live host.new) parent.directory ≡ H.live host.old) }
-    ensures lineage { HasProvenance (Only start) Nothing (GotParent result) (H.lookups host.old) (H.lookups host.new) }
+    ensures provenance { HasProvenance (Only start) Nothing (GotParent result) (H.lookups host.old) (H.lookups host.new) }
     ensures last { IfOk result (λ parent. LastIn parent.directory (H.lookups host.new)) }
     ensures links { links_read (H.lookups host.new) ≤ links_read (H.lookups host.old) + 40 }
     ensures borrowed { IfOk result (λ parent. is_borrowed parent.directory ≡ is_empty (parent_text path.entry.now)) }
     ensures unasked { is_empty (parent_text path.entry.now) ≡ true → host.new ≡ host.old }
-    ensures told { IsTrue H.told → Resolved (H.live host.old) (H.world host.old) (H.world host.new)
-        (places_at (H.world host.old).tree ((H.world host.old).held start).node path.entry.now)
-        (shown_place (H.world host.new).held) result }
-    ensures bound { IsTrue H.told → length (H.lookups host.new) ≤ length (H.lookups host.old)
-        + parent_looks (H.world host.old).tree ((H.world host.old).held start).node path.entry.now }
+    ensures modelled { IsTrue H.modelled → Resolved (H.live host.old) (H.model host.old) (H.model host.new)
+        (places_at (H.model host.old).tree ((H.model host.old).held start).node path.entry.now)
+        (shown_place (H.model host.new).held) result }
+    ensures bound { IsTrue H.modelled → length (H.lookups host.new) ≤ length (H.lookups host.old)
+        + parent_looks (H.model host.old).tree ((H.model host.old).held start).node path.entry.now }
 {
     texts_have_one_split();
     let Some((parent, last)) = split_parent(path) else {

@@ -2,7 +2,7 @@
 ghost use Rattle.std.specs.Prelude.{◌≡◌, ◌≤◌, ◌+◌, ◌*◌, true, IsTrue, length};
 ghost use Rattle.std.specs.FinSet.{contains};
 ghost use Rattle.wasi_host.specs.HostLaws.{HasCause, LiveGot};
-ghost use Rattle.wasi_host.specs.Lineage.{HasProvenance, Only, Nothing};
+ghost use Rattle.wasi_host.specs.Provenance.{HasProvenance, Only, Nothing};
 ghost use Rattle.wasi_resolve.specs.Walk.{Open, Look, walk, walk_looks};
 ghost use Rattle.wasi_resolve.specs.Paths.{directory_options};
 ghost use Rattle.wasi_resolve.specs.Resolved.{links_read, GotBy, GotLast, Resolved};
@@ -31,14 +31,14 @@ pub fn open<H: Host>(
     requires live { contains (H.live host.old) start ≡ true }
     ensures cause { HasCause (H.faults host.old) (H.faults host.new) result }
     ensures live { LiveGot (H.live host.old) result (H.live host.new) }
-    ensures lineage { HasProvenance (Only start) Nothing (GotBy result) (H.lookups host.old) (H.lookups host.new) }
+    ensures provenance { HasProvenance (Only start) Nothing (GotBy result) (H.lookups host.old) (H.lookups host.new) }
     ensures last { GotLast result (H.lookups host.new) }
     ensures links { links_read (H.lookups host.new) ≤ links_read (H.lookups host.old) + 40 }
-    ensures told { IsTrue H.told → Resolved (H.live host.old) (H.world host.old) (H.world host.new)
-        (opens_at (H.world host.old).tree ((H.world host.old).held start).node path.now options.now)
-        (H.world host.new).held result }
-    ensures bound { IsTrue H.told → length (H.lookups host.new) ≤ length (H.lookups host.old)
-        + walk_looks (walk (H.world host.old).tree ((H.world host.old).held start).node path.now (Open options.now)
+    ensures modelled { IsTrue H.modelled → Resolved (H.live host.old) (H.model host.old) (H.model host.new)
+        (opens_at (H.model host.old).tree ((H.model host.old).held start).node path.now options.now)
+        (H.model host.new).held result }
+    ensures bound { IsTrue H.modelled → length (H.lookups host.new) ≤ length (H.lookups host.old)
+        + walk_looks (walk (H.model host.old).tree ((H.model host.old).held start).node path.now (Open options.now)
         (follows options.now.follow)) }
 {
     let texts = Bump::new(alloc);
@@ -60,14 +60,14 @@ pub fn open_dir<H: Host>(
     requires live { contains (H.live host.old) start ≡ true }
     ensures cause { HasCause (H.faults host.old) (H.faults host.new) result }
     ensures live { LiveGot (H.live host.old) result (H.live host.new) }
-    ensures lineage { HasProvenance (Only start) Nothing (GotBy result) (H.lookups host.old) (H.lookups host.new) }
+    ensures provenance { HasProvenance (Only start) Nothing (GotBy result) (H.lookups host.old) (H.lookups host.new) }
     ensures last { GotLast result (H.lookups host.new) }
     ensures links { links_read (H.lookups host.new) ≤ links_read (H.lookups host.old) + 40 }
-    ensures told { IsTrue H.told → Resolved (H.live host.old) (H.world host.old) (H.world host.new)
-        (opens_at (H.world host.old).tree ((H.world host.old).held start).node path.now directory_options)
-        (H.world host.new).held result }
-    ensures bound { IsTrue H.told → length (H.lookups host.new) ≤ length (H.lookups host.old)
-        + walk_looks (walk (H.world host.old).tree ((H.world host.old).held start).node path.now
+    ensures modelled { IsTrue H.modelled → Resolved (H.live host.old) (H.model host.old) (H.model host.new)
+        (opens_at (H.model host.old).tree ((H.model host.old).held start).node path.now directory_options)
+        (H.model host.new).held result }
+    ensures bound { IsTrue H.modelled → length (H.lookups host.new) ≤ length (H.lookups host.old)
+        + walk_looks (walk (H.model host.old).tree ((H.model host.old).held start).node path.now
         (Open directory_options) true) }
 {
     open(alloc, host, start, path, &dir_options())
@@ -87,13 +87,13 @@ pub fn stat<H: Host>(
     requires live { contains (H.live host.old) start ≡ true }
     ensures cause { HasCause (H.faults host.old) (H.faults host.new) result }
     ensures live { H.live host.new ≡ H.live host.old }
-    ensures lineage { HasProvenance (Only start) Nothing Nothing (H.lookups host.old) (H.lookups host.new) }
+    ensures provenance { HasProvenance (Only start) Nothing Nothing (H.lookups host.old) (H.lookups host.new) }
     ensures links { links_read (H.lookups host.new) ≤ links_read (H.lookups host.old) + 40 }
-    ensures told { IsTrue H.told → Resolved (H.live host.old) (H.world host.old) (H.world host.new)
-        (looks_at (H.world host.old).tree ((H.world host.old).held start).node path.now follow)
+    ensures modelled { IsTrue H.modelled → Resolved (H.live host.old) (H.model host.old) (H.model host.new)
+        (looks_at (H.model host.old).tree ((H.model host.old).held start).node path.now follow)
         (λ metadata. metadata) result }
-    ensures bound { IsTrue H.told → length (H.lookups host.new) ≤ length (H.lookups host.old)
-        + walk_looks (walk (H.world host.old).tree ((H.world host.old).held start).node path.now Look
+    ensures bound { IsTrue H.modelled → length (H.lookups host.new) ≤ length (H.lookups host.old)
+        + walk_looks (walk (H.model host.old).tree ((H.model host.old).held start).node path.now Look
         (follows follow)) }
 {
     let texts = Bump::new(alloc);

@@ -1,11 +1,11 @@
 //! The stack of handles of the directories that a walk has gone down into, the last one on top.
 ghost use Rattle.std.specs.Prelude.{◌≡◌, ◌∷◌, IsTrue, List};
-ghost use Rattle.wasi_host.specs.HostLaws.{HasCause, World};
+ghost use Rattle.wasi_host.specs.HostLaws.{HasCause, HostModel};
 ghost use Rattle.wasi_paths.specs.Parts.{Component, ParentDir};
 ghost use Rattle.wasi_resolve.specs.Stack.{Stands, StillStands, top_handle};
 ghost use Rattle.wasi_resolve.specs.WalkState.{begin, way};
 ghost use Rattle.wasi_resolve.specs.Finding.{StackTraced};
-ghost use Rattle.wasi_resolve.specs.WalkSteps.{WorldStays, Walked, Leaves};
+ghost use Rattle.wasi_resolve.specs.WalkSteps.{ModelStays, Walked, Leaves};
 
 use wasi_host::{ErrorCode, Handle, Host, HostError};
 
@@ -28,13 +28,13 @@ pub(crate) fn leave<H: Host>(
     requires { (first : _) × Stands first (H.live host.old) start stack.old.items }
     ensures cause { HasCause (H.faults host.old) (H.faults host.new) result }
     ensures stands { StillStands start (H.live host.old) stack.old.items (H.live host.new) stack.new.items }
-    ensures lineage { StackTraced start stack.old.items stack.new.items (H.lookups host.old) (H.lookups host.new) }
+    ensures provenance { StackTraced start stack.old.items stack.new.items (H.lookups host.old) (H.lookups host.new) }
     ensures logged { H.lookups host.new ≡ H.lookups host.old }
-    ensures told { IsTrue H.told → (first : _) (w : World) (rest : List Component)
+    ensures modelled { IsTrue H.modelled → (first : _) (w : HostModel) (rest : List Component)
         → Stands first (H.live host.old) start stack.old.items
-        → Walked first w (H.world host.old) start stack.old.items
-        → Leaves (begin first w start) (way (H.world host.old) stack.old.items (ParentDir ∷ rest))
-        (way (H.world host.new) stack.new.items rest) result }
+        → Walked first w (H.model host.old) start stack.old.items
+        → Leaves (begin first w start) (way (H.model host.old) stack.old.items (ParentDir ∷ rest))
+        (way (H.model host.new) stack.new.items rest) result }
 {
     let Some(here) = stack.pop() else {
         return Err(HostError::Code(ErrorCode::NotPermitted));
@@ -53,8 +53,8 @@ pub(crate) fn close_all<H: Host>(host: &mut H, start: Handle, stack: &mut Vec<Ha
     ensures faults { H.faults host.new ≡ H.faults host.old }
     ensures live { (first : _) → Stands first (H.live host.old) start stack.old.items → H.live host.new ≡ first }
     ensures logged { H.lookups host.new ≡ H.lookups host.old }
-    ensures told { IsTrue H.told → (first : _) → Stands first (H.live host.old) start stack.old.items
-        → WorldStays first (H.world host.old) (H.world host.new) }
+    ensures modelled { IsTrue H.modelled → (first : _) → Stands first (H.live host.old) start stack.old.items
+        → ModelStays first (H.model host.old) (H.model host.new) }
 {
     while let Some(handle) = stack.pop() {
         host.close(handle);

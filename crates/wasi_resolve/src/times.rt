@@ -2,7 +2,7 @@
 ghost use Rattle.std.specs.Prelude.{◌≡◌, ◌≤◌, ◌+◌, true, IsTrue, length};
 ghost use Rattle.std.specs.FinSet.{contains};
 ghost use Rattle.wasi_host.specs.HostLaws.{HasCause, LiveGot};
-ghost use Rattle.wasi_host.specs.Lineage.{HasProvenance, Only, Nothing};
+ghost use Rattle.wasi_host.specs.Provenance.{HasProvenance, Only, Nothing};
 ghost use Rattle.wasi_resolve.specs.Walk.{Open, walk, walk_looks};
 ghost use Rattle.wasi_resolve.specs.Paths.{reading, writing};
 ghost use Rattle.wasi_resolve.specs.PathRequest.{TimesPath, meant_by};
@@ -31,15 +31,15 @@ pub fn set_times<H: Host>(
     requires live { contains (H.live host.old) start ≡ true }
     ensures cause { HasCause (H.faults host.old) (H.faults host.new) result }
     ensures live { H.live host.new ≡ H.live host.old }
-    ensures lineage { HasProvenance (Only start) Nothing Nothing (H.lookups host.old) (H.lookups host.new) }
+    ensures provenance { HasProvenance (Only start) Nothing Nothing (H.lookups host.old) (H.lookups host.new) }
     ensures links { links_read (H.lookups host.new) ≤ links_read (H.lookups host.old) + 80 }
-    ensures told { IsTrue H.told → Resolved (H.live host.old) (H.world host.old) (H.world host.new)
-        (meant_by (H.world host.old).tree
-        (TimesPath ((H.world host.old).held start).node path.now true atime mtime))
+    ensures modelled { IsTrue H.modelled → Resolved (H.live host.old) (H.model host.old) (H.model host.new)
+        (meant_by (H.model host.old).tree
+        (TimesPath ((H.model host.old).held start).node path.now true atime mtime))
         (λ unit. unit) result }
-    ensures bound { IsTrue H.told → length (H.lookups host.new) ≤ length (H.lookups host.old)
-        + walk_looks (walk (H.world host.old).tree ((H.world host.old).held start).node path.now (Open writing) true)
-        + walk_looks (walk (H.world host.old).tree ((H.world host.old).held start).node path.now (Open reading) true) }
+    ensures bound { IsTrue H.modelled → length (H.lookups host.new) ≤ length (H.lookups host.old)
+        + walk_looks (walk (H.model host.old).tree ((H.model host.old).held start).node path.now (Open writing) true)
+        + walk_looks (walk (H.model host.old).tree ((H.model host.old).held start).node path.now (Open reading) true) }
 {
     let handle = match open_to_set(alloc, host, start, path) {
         Ok(handle) => handle,
@@ -64,14 +64,14 @@ fn open_to_set<H: Host>(
     requires live { contains (H.live host.old) start ≡ true }
     ensures cause { HasCause (H.faults host.old) (H.faults host.new) result }
     ensures live { LiveGot (H.live host.old) result (H.live host.new) }
-    ensures lineage { HasProvenance (Only start) Nothing (GotBy result) (H.lookups host.old) (H.lookups host.new) }
+    ensures provenance { HasProvenance (Only start) Nothing (GotBy result) (H.lookups host.old) (H.lookups host.new) }
     ensures links { links_read (H.lookups host.new) ≤ links_read (H.lookups host.old) + 80 }
-    ensures told { IsTrue H.told → Resolved (H.live host.old) (H.world host.old) (H.world host.new)
-        (timed_at (H.world host.old).tree ((H.world host.old).held start).node path.now)
-        (H.world host.new).held result }
-    ensures bound { IsTrue H.told → length (H.lookups host.new) ≤ length (H.lookups host.old)
-        + walk_looks (walk (H.world host.old).tree ((H.world host.old).held start).node path.now (Open writing) true)
-        + walk_looks (walk (H.world host.old).tree ((H.world host.old).held start).node path.now (Open reading) true) }
+    ensures modelled { IsTrue H.modelled → Resolved (H.live host.old) (H.model host.old) (H.model host.new)
+        (timed_at (H.model host.old).tree ((H.model host.old).held start).node path.now)
+        (H.model host.new).held result }
+    ensures bound { IsTrue H.modelled → length (H.lookups host.new) ≤ length (H.lookups host.old)
+        + walk_looks (walk (H.model host.old).tree ((H.model host.old).held start).node path.now (Open writing) true)
+        + walk_looks (walk (H.model host.old).tree ((H.model host.old).held start).node path.now (Open reading) true) }
 {
     let refused = match open(alloc, host, start, path, &writing()) {
         Ok(handle) => return Ok(handle),

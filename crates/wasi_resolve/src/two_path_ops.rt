@@ -2,14 +2,14 @@
 ghost use Rattle.std.specs.Prelude.{◌≡◌, ◌≤◌, ◌+◌, true, IsTrue, IfOk, OnErr, length};
 ghost use Rattle.std.specs.FinSet.{contains};
 ghost use Rattle.wasi_host.specs.HostLaws.{HasCause};
-ghost use Rattle.wasi_host.specs.Lineage.{HasProvenance, OneOf, Nothing};
+ghost use Rattle.wasi_host.specs.Provenance.{HasProvenance, OneOf, Nothing};
 ghost use Rattle.wasi_paths.specs.Parts.{strip_dir_suffix};
 ghost use Rattle.wasi_resolve.specs.TwoPathOps.{HardLink, Rename, asks_directory};
 ghost use Rattle.wasi_resolve.specs.Parents.{directory_of, parent_looks, released};
 ghost use Rattle.wasi_resolve.specs.PathRequest.{AtTwo, meant_by};
 ghost use Rattle.wasi_resolve.specs.Resolved.{links_read, Resolved};
 ghost use Rattle.wasi_resolve.specs.TwoParents.{both_at, both_released, shown_places, TracedBoth};
-ghost use Rattle.wasi_resolve.specs.WalkSteps.{WorldStays};
+ghost use Rattle.wasi_resolve.specs.WalkSteps.{ModelStays};
 
 use crate::parent::{MaybeOwned, Parent, open_parent};
 use std::alloc::Global;
@@ -35,15 +35,15 @@ pub fn hard_link<H: Host>(
     requires new { contains (H.live host.old) new ≡ true }
     ensures cause { HasCause (H.faults host.old) (H.faults host.new) result }
     ensures live { H.live host.new ≡ H.live host.old }
-    ensures lineage { HasProvenance (OneOf old new) Nothing Nothing (H.lookups host.old) (H.lookups host.new) }
+    ensures provenance { HasProvenance (OneOf old new) Nothing Nothing (H.lookups host.old) (H.lookups host.new) }
     ensures links { links_read (H.lookups host.new) ≤ links_read (H.lookups host.old) + 80 }
-    ensures told { IsTrue H.told → Resolved (H.live host.old) (H.world host.old) (H.world host.new)
-        (meant_by (H.world host.old).tree (AtTwo ((H.world host.old).held old).node old_path.now
-        ((H.world host.old).held new).node new_path.now HardLink))
+    ensures modelled { IsTrue H.modelled → Resolved (H.live host.old) (H.model host.old) (H.model host.new)
+        (meant_by (H.model host.old).tree (AtTwo ((H.model host.old).held old).node old_path.now
+        ((H.model host.old).held new).node new_path.now HardLink))
         (λ unit. unit) result }
-    ensures bound { IsTrue H.told → length (H.lookups host.new) ≤ length (H.lookups host.old)
-        + parent_looks (H.world host.old).tree ((H.world host.old).held old).node old_path.now
-        + parent_looks (H.world host.old).tree ((H.world host.old).held new).node new_path.now + 2 }
+    ensures bound { IsTrue H.modelled → length (H.lookups host.new) ≤ length (H.lookups host.old)
+        + parent_looks (H.model host.old).tree ((H.model host.old).held old).node old_path.now
+        + parent_looks (H.model host.old).tree ((H.model host.old).held new).node new_path.now + 2 }
 {
     let TwoParents { old: from, new: to } = match open_both(
         alloc, host, old, old_path, new, new_path,
@@ -80,15 +80,15 @@ pub fn rename<H: Host>(
     requires new { contains (H.live host.old) new ≡ true }
     ensures cause { HasCause (H.faults host.old) (H.faults host.new) result }
     ensures live { H.live host.new ≡ H.live host.old }
-    ensures lineage { HasProvenance (OneOf old new) Nothing Nothing (H.lookups host.old) (H.lookups host.new) }
+    ensures provenance { HasProvenance (OneOf old new) Nothing Nothing (H.lookups host.old) (H.lookups host.new) }
     ensures links { links_read (H.lookups host.new) ≤ links_read (H.lookups host.old) + 80 }
-    ensures told { IsTrue H.told → Resolved (H.live host.old) (H.world host.old) (H.world host.new)
-        (meant_by (H.world host.old).tree (AtTwo ((H.world host.old).held old).node old_path.now
-        ((H.world host.old).held new).node new_path.now Rename))
+    ensures modelled { IsTrue H.modelled → Resolved (H.live host.old) (H.model host.old) (H.model host.new)
+        (meant_by (H.model host.old).tree (AtTwo ((H.model host.old).held old).node old_path.now
+        ((H.model host.old).held new).node new_path.now Rename))
         (λ unit. unit) result }
-    ensures bound { IsTrue H.told → length (H.lookups host.new) ≤ length (H.lookups host.old)
-        + parent_looks (H.world host.old).tree ((H.world host.old).held old).node (strip_dir_suffix old_path.now)
-        + parent_looks (H.world host.old).tree ((H.world host.old).held new).node (strip_dir_suffix new_path.now) + 2 }
+    ensures bound { IsTrue H.modelled → length (H.lookups host.new) ≤ length (H.lookups host.old)
+        + parent_looks (H.model host.old).tree ((H.model host.old).held old).node (strip_dir_suffix old_path.now)
+        + parent_looks (H.model host.old).tree ((H.model host.old).held new).node (strip_dir_suffix new_path.now) + 2 }
 {
     let requires_dir = asks_directory(old_path, new_path);
     let TwoParents { old: from, new: to } = match open_both(
@@ -134,8 +134,8 @@ fn release_both<H: Host>(host: &mut H, first: MaybeOwned, second: MaybeOwned)
     ensures faults { H.faults host.new ≡ H.faults host.old }
     ensures live { H.live host.new ≡ both_released (H.live host.old) first second }
     ensures logged { H.lookups host.new ≡ H.lookups host.old }
-    ensures told { IsTrue H.told
-        → WorldStays (both_released (H.live host.old) first second) (H.world host.old) (H.world host.new) }
+    ensures modelled { IsTrue H.modelled
+        → ModelStays (both_released (H.live host.old) first second) (H.model host.old) (H.model host.new) }
 {
     second.release(host);
     first.release(host);
@@ -162,15 +162,15 @@ fn open_both<'a, 'b, H: Host>(
         (directory_of both.old.directory) ≡ true) }
     ensures closes { IfOk result (λ both. both_released (H.live host.new) both.old.directory both.new.directory
         ≡ H.live host.old) }
-    ensures lineage { TracedBoth old new result (H.lookups host.old) (H.lookups host.new) }
+    ensures provenance { TracedBoth old new result (H.lookups host.old) (H.lookups host.new) }
     ensures links { links_read (H.lookups host.new) ≤ links_read (H.lookups host.old) + 80 }
-    ensures told { IsTrue H.told → Resolved (H.live host.old) (H.world host.old) (H.world host.new)
-        (both_at (H.world host.old).tree ((H.world host.old).held old).node old_path.entry.now
-        ((H.world host.old).held new).node new_path.entry.now)
-        (shown_places (H.world host.new).held) result }
-    ensures bound { IsTrue H.told → length (H.lookups host.new) ≤ length (H.lookups host.old)
-        + parent_looks (H.world host.old).tree ((H.world host.old).held old).node old_path.entry.now
-        + parent_looks (H.world host.old).tree ((H.world host.old).held new).node new_path.entry.now }
+    ensures modelled { IsTrue H.modelled → Resolved (H.live host.old) (H.model host.old) (H.model host.new)
+        (both_at (H.model host.old).tree ((H.model host.old).held old).node old_path.entry.now
+        ((H.model host.old).held new).node new_path.entry.now)
+        (shown_places (H.model host.new).held) result }
+    ensures bound { IsTrue H.modelled → length (H.lookups host.new) ≤ length (H.lookups host.old)
+        + parent_looks (H.model host.old).tree ((H.model host.old).held old).node old_path.entry.now
+        + parent_looks (H.model host.old).tree ((H.model host.old).held new).node new_path.entry.now }
 {
     let first = match open_parent(alloc, host, old, old_path) {
         Ok(first) => first,

@@ -1,8 +1,8 @@
 //! The walk along the parts of a path.
 ghost use Rattle.std.specs.Prelude.{◌≡◌, ◌∷◌, ◌≤◌, ◌+◌, ◌&&◌, ◌||◌, ℕ, true, IsTrue, List, length};
 ghost use Rattle.std.specs.FinSet.{contains};
-ghost use Rattle.wasi_host.specs.HostLaws.{HasCause, World};
-ghost use Rattle.wasi_host.specs.Lineage.{HasProvenance, Only, Nothing};
+ghost use Rattle.wasi_host.specs.HostLaws.{HasCause, HostModel};
+ghost use Rattle.wasi_host.specs.Provenance.{HasProvenance, Only, Nothing};
 ghost use Rattle.wasi_paths.specs.Parts.{Component, trailing_slash, is_empty};
 ghost use Rattle.wasi_resolve.specs.Walk.{walk, walk_looks};
 ghost use Rattle.wasi_resolve.specs.Left.{component_left, parts_left, is_nil};
@@ -35,13 +35,13 @@ fn step<'p, H: Host>(
     requires { (first : _) × Stands first (H.live host.old) start stack.old.items }
     ensures cause { HasCause (H.faults host.old) (H.faults host.new) result }
     ensures stands { StillStands start (H.live host.old) stack.old.items (H.live host.new) stack.new.items }
-    ensures lineage { StackTraced start stack.old.items stack.new.items (H.lookups host.old) (H.lookups host.new) }
+    ensures provenance { StackTraced start stack.old.items stack.new.items (H.lookups host.old) (H.lookups host.new) }
     ensures reads { ReadsBy (H.lookups host.old) (H.lookups host.new) result }
-    ensures told { IsTrue H.told → (first : _) (w : World) (rest : List Component) → is_nil rest ≡ is_last
+    ensures modelled { IsTrue H.modelled → (first : _) (w : HostModel) (rest : List Component) → is_nil rest ≡ is_last
         → Stands first (H.live host.old) start stack.old.items
-        → Walked first w (H.world host.old) start stack.old.items
-        → TakesPart (begin first w start) (way (H.world host.old) stack.old.items (component_left part.entry ∷ rest))
-        (way (H.world host.new) stack.new.items rest) result }
+        → Walked first w (H.model host.old) start stack.old.items
+        → TakesPart (begin first w start) (way (H.model host.old) stack.old.items (component_left part.entry ∷ rest))
+        (way (H.model host.new) stack.new.items rest) result }
 {
     match part {
         PartLeft::Root => Err(HostError::Code(ErrorCode::NotPermitted)),
@@ -64,13 +64,13 @@ fn leg<'p, H: Host>(host: &mut H, start: Handle, way: &mut Way<'p>) -> Result<St
     requires { (first : _) × Stands first (H.live host.old) start way.old.stack.items }
     ensures cause { HasCause (H.faults host.old) (H.faults host.new) result }
     ensures stands { StillStands start (H.live host.old) way.old.stack.items (H.live host.new) way.new.stack.items }
-    ensures lineage { StackTraced start way.old.stack.items way.new.stack.items (H.lookups host.old) (H.lookups host.new) }
+    ensures provenance { StackTraced start way.old.stack.items way.new.stack.items (H.lookups host.old) (H.lookups host.new) }
     ensures reads { ReadsTo way.old.left.items way.new.left.items (H.lookups host.old) (H.lookups host.new) result }
-    ensures told { IsTrue H.told → (first : _) (w : World)
+    ensures modelled { IsTrue H.modelled → (first : _) (w : HostModel)
         → Stands first (H.live host.old) start way.old.stack.items
-        → Walked first w (H.world host.old) start way.old.stack.items
-        → Stopped (begin first w start) (way_of (H.world host.old) way.old)
-        (way_of (H.world host.new) way.new) result }
+        → Walked first w (H.model host.old) start way.old.stack.items
+        → Stopped (begin first w start) (way_of (H.model host.old) way.old)
+        (way_of (H.model host.new) way.new) result }
 {
     while let Some(part) = way.left.pop() {
         let is_last = way.left.as_slice().is_empty();
@@ -89,11 +89,11 @@ fn at_dot<H: Host>(host: &mut H, here: Handle, aim: &Aim) -> Result<Found, HostE
     ensures cause { HasCause (H.faults host.old) (H.faults host.new) result }
     ensures live { LiveWith (H.live host.old) (handle_found result) (H.live host.new) }
     ensures for_aim { FoundOf aim.now result }
-    ensures lineage { HasProvenance (Only here) Nothing (IsGot (handle_found result)) (H.lookups host.old) (H.lookups host.new) }
+    ensures provenance { HasProvenance (Only here) Nothing (IsGot (handle_found result)) (H.lookups host.old) (H.lookups host.new) }
     ensures last { IsLast (handle_found result) (H.lookups host.new) }
     ensures reads { FewReads 1 0 (H.lookups host.old) (H.lookups host.new) }
-    ensures told { IsTrue H.told → EndsInDirectory (H.live host.old) (H.world host.old) (H.world host.new)
-        ((H.world host.old).held here).node (aim_of aim.now) result }
+    ensures modelled { IsTrue H.modelled → EndsInDirectory (H.live host.old) (H.model host.old) (H.model host.new)
+        ((H.model host.old).held here).node (aim_of aim.now) result }
 {
     match aim {
         Aim::Open(options) => {
@@ -124,16 +124,16 @@ fn reach<'p, H: Host>(
     ensures stands { (first : _) → Stands first (H.live host.old) start way.old.stack.items
         → StandsWith first (H.live host.new) start way.new.stack.items (handle_reached result) }
     ensures for_aim { FoundAs aim.now result }
-    ensures lineage { ReachTraced start way.old.stack.items way.new.stack.items result
+    ensures provenance { ReachTraced start way.old.stack.items way.new.stack.items result
         (H.lookups host.old) (H.lookups host.new) }
     ensures last { IsLast (handle_reached result) (H.lookups host.new) }
     ensures reads { FewUntil 1 way.old.left.items way.new.left.items (H.lookups host.old) (H.lookups host.new) }
-    ensures told { IsTrue H.told → (first : _) (w : World) (m : ℕ)
+    ensures modelled { IsTrue H.modelled → (first : _) (w : HostModel) (m : ℕ)
         → Stands first (H.live host.old) start way.old.stack.items
-        → Walked first w (H.world host.old) start way.old.stack.items
+        → Walked first w (H.model host.old) start way.old.stack.items
         → Reaches (begin first w start) (course_of aim.now slash) m
-        (way_of (H.world host.old) way.old)
-        (way_of (H.world host.new) way.new) result }
+        (way_of (H.model host.old) way.old)
+        (way_of (H.model host.new) way.new) result }
 {
     let stop = leg(host, start, way)?;
     let here = top_of(start, &way.stack);
@@ -168,10 +168,10 @@ fn read_link<'p, H: Host>(
     requires { contains (H.live host.old) here ≡ true }
     ensures cause { HasCause (H.faults host.old) (H.faults host.new) result }
     ensures live { H.live host.new ≡ H.live host.old }
-    ensures lineage { HasProvenance (Only here) Nothing Nothing (H.lookups host.old) (H.lookups host.new) }
+    ensures provenance { HasProvenance (Only here) Nothing Nothing (H.lookups host.old) (H.lookups host.new) }
     ensures reads { FewReads 1 1 (H.lookups host.old) (H.lookups host.new) }
-    ensures told { IsTrue H.told → ReadsLink (H.live host.old) (H.world host.old) (H.world host.new)
-        (record { directory = ((H.world host.old).held here).node; name = name.entry.text.now })
+    ensures modelled { IsTrue H.modelled → ReadsLink (H.live host.old) (H.model host.old) (H.model host.new)
+        (record { directory = ((H.model host.old).held here).node; name = name.entry.text.now })
         (parts_left left.old.items) (parts_left left.new.items) slash result }
 {
     let read = host.read_link_at(alloc, here, name.name())?;
@@ -196,16 +196,16 @@ fn along<'p, H: Host>(
     ensures stands { (first : _) → Stands first (H.live host.old) start way.old.stack.items
         → StandsWith first (H.live host.new) start way.new.stack.items (handle_found result) }
     ensures for_aim { FoundOf aim.now result }
-    ensures lineage { HasProvenance (Among start way.old.stack.items) Nothing (IsGot (handle_found result))
+    ensures provenance { HasProvenance (Among start way.old.stack.items) Nothing (IsGot (handle_found result))
         (H.lookups host.old) (H.lookups host.new) }
     ensures last { IsLast (handle_found result) (H.lookups host.new) }
     ensures links { links_read (H.lookups host.new) ≤ links_read (H.lookups host.old) + 40 }
-    ensures told { IsTrue H.told → (first : _) (w : World)
+    ensures modelled { IsTrue H.modelled → (first : _) (w : HostModel)
         → Stands first (H.live host.old) start way.old.stack.items
-        → Walked first w (H.world host.old) start way.old.stack.items
+        → Walked first w (H.model host.old) start way.old.stack.items
         → Comes (begin first w start) (course_of aim.now has_slash)
-        (way_of (H.world host.old) way.old)
-        (way_of (H.world host.new) way.new) (H.lookups host.old) (H.lookups host.new) result }
+        (way_of (H.model host.old) way.old)
+        (way_of (H.model host.new) way.new) (H.lookups host.old) (H.lookups host.new) result }
 {
     let mut slash = has_slash;
     for links in 0..MAX_SYMLINK_EXPANSIONS {
@@ -245,16 +245,16 @@ pub(crate) fn walk<'p, H: Host>(
     ensures cause { HasCause (H.faults host.old) (H.faults host.new) result }
     ensures live { LiveWith (H.live host.old) (handle_found result) (H.live host.new) }
     ensures for_aim { FoundOf aim.now result }
-    ensures lineage { HasProvenance (Only start) Nothing (IsGot (handle_found result)) (H.lookups host.old) (H.lookups host.new) }
+    ensures provenance { HasProvenance (Only start) Nothing (IsGot (handle_found result)) (H.lookups host.old) (H.lookups host.new) }
     ensures last { IsLast (handle_found result) (H.lookups host.new) }
     ensures links { links_read (H.lookups host.new) ≤ links_read (H.lookups host.old) + 40 }
-    ensures told { IsTrue H.told → Resolved (H.live host.old) (H.world host.old) (H.world host.new)
-        (meant_at (H.world host.old).tree (aim_of aim.now) ((H.world host.old).held start).node
-        (walk (H.world host.old).tree ((H.world host.old).held start).node path.now (aim_of aim.now)
+    ensures modelled { IsTrue H.modelled → Resolved (H.live host.old) (H.model host.old) (H.model host.new)
+        (meant_at (H.model host.old).tree (aim_of aim.now) ((H.model host.old).held start).node
+        (walk (H.model host.old).tree ((H.model host.old).held start).node path.now (aim_of aim.now)
         (aim_follows aim.now)).outcome)
-        (shown_found (H.world host.new).held) result }
-    ensures bound { IsTrue H.told → length (H.lookups host.new) ≤ length (H.lookups host.old)
-        + walk_looks (walk (H.world host.old).tree ((H.world host.old).held start).node path.now (aim_of aim.now)
+        (shown_found (H.model host.new).held) result }
+    ensures bound { IsTrue H.modelled → length (H.lookups host.new) ≤ length (H.lookups host.old)
+        + walk_looks (walk (H.model host.old).tree ((H.model host.old).held start).node path.now (aim_of aim.now)
         (aim_follows aim.now)) }
 {
     if is_empty(path) {

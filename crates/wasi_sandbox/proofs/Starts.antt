@@ -7,8 +7,8 @@ use Rattle.std.specs.List.{list_all}
 use Rattle.std.proofs.lemmas.List.{length-map}
 use Rattle.std.proofs.lemmas.List.Folds.{list_all-map}
 use Rattle.wasi_host.specs.Tree.{Tree, Node, Content, File, Directory, Link, node_at, names_of, next_of, is_directory, stray}
-use Rattle.wasi_tree.specs.Given.{Given, content_given, given_of}
-use Rattle.wasi_tree.specs.GivenTests.{is_dir_content}
+use Rattle.wasi_tree.specs.NodeData.{NodeData, data_of_content, data_of_node}
+use Rattle.wasi_tree.specs.NodeDataTests.{is_dir_content}
 use Rattle.wasi_tree.specs.MemState.{MemState}
 use Rattle.wasi_tree.specs.Viewed.{viewed_content, Views}
 use Rattle.wasi_tree.specs.declared.node.ContentView.{ContentView}
@@ -17,7 +17,7 @@ use Rattle.wasi_tree.specs.declared.node.NodeView.{NodeView}
 use Rattle.wasi_form.specs.LimitsForm.{default_limits}
 use Rattle.wasi_form.specs.Plan.{Plan, PlannedPreopen, drafted, planned, planned_preopen}
 use Rattle.wasi_form.specs.Verdict.{IsVerdict, Reads, ReadsDraft, read_plan}
-use Rattle.wasi_form.specs.Within.{are_preopens_directories, is_directory_given, is_session_within, is_within_limits}
+use Rattle.wasi_form.specs.Within.{are_preopens_directories, is_directory_data, is_session_within, is_within_limits}
 use Rattle.wasi_form.specs.declared.script.Draft.{Draft}
 use Rattle.wasi_form.specs.declared.script.ScriptPreopen.{ScriptPreopen}
 use Rattle.wasi_form.specs.declared.script.Session.{Session}
@@ -51,40 +51,40 @@ own_tree tree bytes p is own = rw (is, own) refl
 
 -- the rest of it is within the limits over a tree, or isn't
 pub within_over : (tree : Tree) (session : Session) (b : Bool)
-    → is_session_within (list_all (λ preopen. is_directory_given
-    (slice_get (map given_of tree.nodes) (planned_preopen preopen).node)) session.preopens.items)
+    → is_session_within (list_all (λ preopen. is_directory_data
+    (slice_get (map data_of_node tree.nodes) (planned_preopen preopen).node)) session.preopens.items)
     (planned [] default_limits session) ≡ b
-    → is_within_limits (planned (map given_of tree.nodes) tree.limits session) ≡ b
+    → is_within_limits (planned (map data_of_node tree.nodes) tree.limits session) ≡ b
 unfolding is_within_limits
 within_over tree session b is =
-    ap (λ d. is_session_within d (planned (map given_of tree.nodes) tree.limits session))
-    (list_all-map (λ (preopen : PlannedPreopen). is_directory_given (slice_get (map given_of tree.nodes) preopen.node))
+    ap (λ d. is_session_within d (planned (map data_of_node tree.nodes) tree.limits session))
+    (list_all-map (λ (preopen : PlannedPreopen). is_directory_data (slice_get (map data_of_node tree.nodes) preopen.node))
     planned_preopen session.preopens.items) ∙ is
 
 pub past_limit_over : (tree : Tree) (bytes : List ℕ) (d : Draft) → read_plan bytes ≡ Ok (drafted d)
-    → has_no_tree (drafted d) ≡ true → is_within_limits (planned (map given_of tree.nodes) tree.limits d.session) ≡ false
+    → has_no_tree (drafted d) ≡ true → is_within_limits (planned (map data_of_node tree.nodes) tree.limits d.session) ≡ false
     → verdict_over tree bytes ≡ Err (Refused Limit)
 past_limit_over tree bytes d is bare past = rw (is, bare, past) refl
 
 pub guest_over : (tree : Tree) (bytes : List ℕ) (d : Draft) → read_plan bytes ≡ Ok (drafted d)
-    → has_no_tree (drafted d) ≡ true → is_within_limits (planned (map given_of tree.nodes) tree.limits d.session) ≡ true
+    → has_no_tree (drafted d) ≡ true → is_within_limits (planned (map data_of_node tree.nodes) tree.limits d.session) ≡ true
     → has_no_guest (planned [] default_limits d.session) ≡ false → verdict_over tree bytes ≡ Err Guest
 guest_over tree bytes d is bare within guest = rw (is, bare, within, guest) refl
 
 pub taken_over : (tree : Tree) (bytes : List ℕ) (d : Draft) → read_plan bytes ≡ Ok (drafted d)
-    → has_no_tree (drafted d) ≡ true → is_within_limits (planned (map given_of tree.nodes) tree.limits d.session) ≡ true
+    → has_no_tree (drafted d) ≡ true → is_within_limits (planned (map data_of_node tree.nodes) tree.limits d.session) ≡ true
     → has_no_guest (planned [] default_limits d.session) ≡ true
-    → verdict_over tree bytes ≡ Ok (planned (map given_of tree.nodes) tree.limits d.session)
+    → verdict_over tree bytes ≡ Ok (planned (map data_of_node tree.nodes) tree.limits d.session)
 taken_over tree bytes d is bare within alone = rw (is, bare, within, alone) refl
 
 -- ---- its directories
 
-directory_of_given : (content : Content) → is_dir_content (content_given content) ≡ true → is_directory content ≡ true
+directory_of_given : (content : Content) → is_dir_content (data_of_content content) ≡ true → is_directory content ≡ true
 directory_of_given (File bytes links) is = absurd (cc)
 directory_of_given (Directory names gone) is = refl
 directory_of_given (Link text links) is = absurd (cc)
 
-directory_at : (nodes : List Node) (n : ℕ) → is_directory_given (slice_get (map given_of nodes) n) ≡ true
+directory_at : (nodes : List Node) (n : ℕ) → is_directory_data (slice_get (map data_of_node nodes) n) ≡ true
     → is_directory (slice_index_or nodes n stray).content ≡ true
 directory_at [] n is = absurd (cc)
 directory_at (node ∷ nodes) zero is = directory_of_given node.content is
@@ -92,21 +92,21 @@ directory_at (node ∷ nodes) (suc n) is = directory_at nodes n is
 
 -- directories of the list that tells a tree are directories of the tree, also where no step has worked on it
 directories_over : (tree : Tree) (preopens : List ScriptPreopen)
-    → are_preopens_directories (map given_of tree.nodes) (map planned_preopen preopens) ≡ true
+    → are_preopens_directories (map data_of_node tree.nodes) (map planned_preopen preopens) ≡ true
     → All (λ preopen. is_directory (node_at (record tree { worked = empty }) preopen.node).content ≡ true) preopens
 unfolding node_at
 directories_over tree preopens are k d within =
     directory_at tree.nodes (get_or preopens k d).node
-    (passes_at (λ preopen. is_directory_given (slice_get (map given_of tree.nodes) (planned_preopen preopen).node)) preopens k d within
-    (sym (list_all-map (λ (preopen : PlannedPreopen). is_directory_given (slice_get (map given_of tree.nodes) preopen.node))
+    (passes_at (λ preopen. is_directory_data (slice_get (map data_of_node tree.nodes) (planned_preopen preopen).node)) preopens k d within
+    (sym (list_all-map (λ (preopen : PlannedPreopen). is_directory_data (slice_get (map data_of_node tree.nodes) preopen.node))
     planned_preopen preopens) ∙ are))
 
 -- so what is within the limits over a tree can begin on it
 pub begins_over : (tree : Tree) (session : Session)
-    → is_within_limits (planned (map given_of tree.nodes) tree.limits session) ≡ true
+    → is_within_limits (planned (map data_of_node tree.nodes) tree.limits session) ≡ true
     → IsWithinOn (record tree { worked = empty }) session
 begins_over tree session within =
-    let kept = limits_kept (planned (map given_of tree.nodes) tree.limits session) within in
+    let kept = limits_kept (planned (map data_of_node tree.nodes) tree.limits session) within in
     record {
       directories = directories_over tree session.preopens.items kept.preopens;
       table = omega (arith, kept.table, length-map session.preopens.items planned_preopen);
@@ -116,10 +116,10 @@ begins_over tree session within =
 -- whether a number is a directory's is told by the node that the tree lends
 pub lent_directory : (tree : Tree) (n : ℕ) (view : NodeView) → n < next_of tree → Views (node_at tree n) view
     → is_dir_content (viewed_content (maps.entries (names_of (node_at tree n).content)) view.content)
-    ≡ is_directory_given (slice_get (map given_of tree.nodes) n)
+    ≡ is_directory_data (slice_get (map data_of_node tree.nodes) n)
 unfolding node_at
 lent_directory tree n view within shows =
-    ap (λ (g : Given). is_dir_content g.content) shows.given ∙ ap is_directory_given (sym (told_at tree n within))
+    ap (λ (g : NodeData). is_dir_content g.content) shows.node_data ∙ ap is_directory_data (sym (told_at tree n within))
 
 pub another_kind : (names : List (List ℕ × ℕ)) (content : ContentView) → (content ≡ views.Dir → ⊥)
     → false ≡ is_dir_content (viewed_content names content)
@@ -128,5 +128,5 @@ another_kind names views.Dir other = absurd (other refl)
 another_kind names (views.Link text) other = refl
 
 pub no_directory : (tree : Tree) (n : ℕ) → next_of tree ≤ n
-    → false ≡ is_directory_given (slice_get (map given_of tree.nodes) n)
-no_directory tree n past = ap is_directory_given (sym (none_told tree n past))
+    → false ≡ is_directory_data (slice_get (map data_of_node tree.nodes) n)
+no_directory tree n past = ap is_directory_data (sym (none_told tree n past))

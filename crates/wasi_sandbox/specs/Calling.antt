@@ -4,9 +4,9 @@ use Rattle.wasi_host_faults.specs.Faults.{Failing, counted}
 use Rattle.wasi_guest.specs.declared.answer.TrapKind.TheVariants.{Pointer}
 use Rattle.wasi_guest.specs.declared.answer.Value.{Value}
 use Rattle.wasi_guest.specs.declared.call.Call.{Call}
-use Rattle.wasi_host.specs.HostLaws.{FaultCount, Handles, Rose, World, never_fails}
+use Rattle.wasi_host.specs.HostLaws.{FaultCount, Handles, Rose, HostModel, never_fails}
 use Rattle.wasi_host.specs.declared.lookup.Lookup.{Lookup}
-use Rattle.wasi_p1_model.specs.CallTransition.{Causes, FollowsRow, IsAnswered, IsValidCall, Looks, LooksByNames, OthersStay}
+use Rattle.wasi_p1_model.specs.CallTransition.{Causes, FollowsSpec, IsAnswered, IsValidCall, Looks, LooksByNames, OthersStay}
 use Rattle.wasi_p1_model.specs.Calls.{looks_up}
 use Rattle.wasi_p1_types.specs.ErrorNumbers.{MayCome}
 use Rattle.wasi_p1_types.specs.Front.{with_fuel}
@@ -18,14 +18,14 @@ use Rattle.wasi_p1_model.specs.Unchanged.{LeavesAll}
 use Rattle.wasi_p1_types.specs.declared.error.P1Error.{P1Error}
 use Rattle.wasi_p1_types.specs.declared.error.P1Error.TheVariants.{Memory, Trap}
 use Rattle.wasi_sandbox.specs.Shapes.{has_room, shape_of, with_answer}
-use Rattle.wasi_sandbox.specs.declared.result_layout.Places.{Places}
-use Rattle.wasi_tree.specs.MemState.{MemState, live_of, world_of}
+use Rattle.wasi_sandbox.specs.declared.result_layout.ResultAddresses.{ResultAddresses}
+use Rattle.wasi_tree.specs.MemState.{MemState, live_of, model_of}
 use Rattle.wasi_sandbox.specs.declared.sandbox.Sandbox.{Sandbox}
 
 -- ---- a sandbox's host: a tree of any kind, which is seen as one in memory is, behind calls that fail
 
-abbrev pub world_in : {T : Type 0} → (T → MemState) → Failing T → World
-world_in seen host = world_of (seen host.inner)
+abbrev pub model_in : {T : Type 0} → (T → MemState) → Failing T → HostModel
+model_in seen host = model_of (seen host.inner)
 
 abbrev pub faults_in : {T : Type 0} → Failing T → FaultCount
 faults_in host = counted never_fails host.calls
@@ -44,7 +44,7 @@ fueled s = record s.context { fuel = s.fuel }
 
 -- the state of a sandbox whose guest has this memory
 abbrev pub state_with : {T : Type 0} → (T → MemState) → Sandbox T → List ℕ → State
-state_with seen s memory = state_of (world_in seen) s.context memory
+state_with seen s memory = state_of (model_in seen) s.context memory
 
 -- the host failed in between
 abbrev pub Failed : {T : Type 0} → Sandbox T → Sandbox T → Type 0
@@ -68,10 +68,10 @@ pub record Called {T : Type 0} (seen : T → MemState) (old new : Sandbox T) (be
     (result : Result Value P1Error) : Type 0 where
   pub cause : Causes (faults_in old.context.host) (faults_in new.context.host) result
   pub handles : OthersStay (live_in seen) old.context new.context
-  pub lineage : Looks (lookups_in seen) old.context new.context before call
+  pub provenance : Looks (lookups_in seen) old.context new.context before call
   pub logged : LooksByNames (looks_up call) (lookups_in seen old.context.host) (lookups_in seen new.context.host)
-  pub unchanged : LeavesAll true (world_in seen) old.context new.context before after result
-  pub turn : FollowsRow true (world_in seen) faults_in (lookups_in seen) (fueled old) new.context before after call result
+  pub unchanged : LeavesAll true (model_in seen) old.context new.context before after result
+  pub turn : FollowsSpec true (model_in seen) faults_in (lookups_in seen) (fueled old) new.context before after call result
   pub complete : (Failed old new → ⊥) → IsValidCall (state_with seen old before) (with_fuel old.fuel call)
       → IsAnswered call result
   pub errnos : IfSome (answer_of result) MayCome
@@ -82,7 +82,7 @@ pub record Called {T : Type 0} (seen : T → MemState) (old new : Sandbox T) (be
 -- A call whose results go to addresses. Where one isn't aligned or a result would leave the memory, it traps and isn't
 -- made; else it is made, and what it is answered stands there over the memory that it left
 pub data CalledInto {T : Type 0} (seen : T → MemState) (old new : Sandbox T) (before after : List ℕ) (call : Call)
-    (to : Places) : Result Value P1Error → Type 0 where
+    (to : ResultAddresses) : Result Value P1Error → Type 0 where
   no_room : has_room (length before) (shape_of call) to ≡ false → new ≡ old → after ≡ before
       → CalledInto seen old new before after call to (Err (Trap Pointer))
   made : {result : Result Value P1Error} → has_room (length before) (shape_of call) to ≡ true → (memory : List ℕ)

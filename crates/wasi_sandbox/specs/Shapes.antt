@@ -7,7 +7,7 @@ use Rattle.wasi_guest.specs.declared.answer.Value.TheVariants as values
 use Rattle.wasi_guest.specs.declared.call.Call.{Call}
 use Rattle.wasi_guest.specs.declared.call.Call.TheVariants as calls
 use Rattle.wasi_sandbox.specs.Records.{fdstat_bytes, filestat_bytes, low_half, prestat_bytes}
-use Rattle.wasi_sandbox.specs.declared.result_layout.Places.{Places}
+use Rattle.wasi_sandbox.specs.declared.result_layout.ResultAddresses.{ResultAddresses}
 use Rattle.wasi_sandbox.specs.declared.result_layout.Shape.{Shape}
 use Rattle.wasi_sandbox.specs.declared.result_layout.Shape.TheVariants as shapes
 
@@ -42,7 +42,7 @@ abbrev pub fits : ℕ → ℕ → ℕ → ℕ → Bool
 fits length at size alignment = at % alignment == 0 && nat_le (at + size) length
 
 -- each result fits at its address
-abbrev pub has_room : ℕ → Shape → Places → Bool
+abbrev pub has_room : ℕ → Shape → ResultAddresses → Bool
 has_room length shapes.Nothing to = true
 has_room length shapes.U32 to = fits length to.first 4 4
 has_room length shapes.U64 to = fits length to.first 8 8
@@ -53,7 +53,7 @@ has_room length shapes.Fdstat to = fits length to.first 24 8
 has_room length shapes.Filestat to = fits length to.first 64 8
 
 -- the memory with what a call of the shape was answered at the addresses of its results
-abbrev pub with_result : List ℕ → Shape → Places → Value → List ℕ
+abbrev pub with_result : List ℕ → Shape → ResultAddresses → Value → List ℕ
 with_result memory shapes.U32 to (values.Number n) = with_bytes memory to.first (low_half n)
 with_result memory shapes.U64 to (values.Number n) = with_bytes memory to.first (to_le_bytes w64 n)
 with_result memory shapes.Prestat to (values.Number n) = with_bytes memory to.first (prestat_bytes n)
@@ -65,6 +65,6 @@ with_result memory shapes.Filestat to (values.Filestat stat) = with_bytes memory
 with_result memory shape to value = memory
 
 -- the same of an answer: a call that isn't answered Ok puts nothing
-abbrev pub with_answer : {E : Type 0} → List ℕ → Shape → Places → Result Value E → List ℕ
+abbrev pub with_answer : {E : Type 0} → List ℕ → Shape → ResultAddresses → Result Value E → List ℕ
 with_answer memory shape to (Ok value) = with_result memory shape to value
 with_answer memory shape to (Err e) = memory

@@ -3,7 +3,7 @@ use Rattle.std.specs.Prelude.{◌≡◌, ◌==◌, ℕ, Bool, true, false, not, 
 use Rattle.std.specs.FinSet.{empty}
 use Rattle.wasi_host.specs.Tree.{Tree}
 use Rattle.wasi_host.specs.declared.limits.Limits.{Limits}
-use Rattle.wasi_tree.specs.Given.{given_of, tree_of}
+use Rattle.wasi_tree.specs.NodeData.{data_of_node, tree_of}
 use Rattle.wasi_tree.specs.MemState.{MemState}
 use Rattle.wasi_form.specs.LimitsForm.{default_limits}
 use Rattle.wasi_form.specs.Plan.{Plan, planned}
@@ -57,7 +57,7 @@ has_no_tree plan = length plan.nodes == 0 && are_default plan.limits
 
 -- the same with the nodes and the limits of a tree
 abbrev pub plan_over : Tree → Plan → Plan
-plan_over tree plan = record plan { nodes = map given_of tree.nodes; limits = tree.limits }
+plan_over tree plan = record plan { nodes = map data_of_node tree.nodes; limits = tree.limits }
 
 -- the plan over a tree of what was read of a script, or the first reason why there is none
 abbrev pub over : Tree → Result Plan Refusal → Result Plan StartError
@@ -73,7 +73,7 @@ verdict_over tree bytes = over tree (read_plan bytes)
 
 -- what is run over a tree is that of the verdict, or the refusal is; or memory was wanted
 abbrev pub JudgesOver : Tree → List ℕ → Result Session StartError → Type 0
-JudgesOver tree bytes (Ok session) = verdict_over tree bytes ≡ Ok (planned (map given_of tree.nodes) tree.limits session)
+JudgesOver tree bytes (Ok session) = verdict_over tree bytes ≡ Ok (planned (map data_of_node tree.nodes) tree.limits session)
 JudgesOver tree bytes (Err Memory) = ⊤
 JudgesOver tree bytes (Err error) = verdict_over tree bytes ≡ Err error
 

@@ -16,7 +16,7 @@ pub use any::AnySandbox;
 pub use base::Base;
 pub use error::StartError;
 pub use records::{fdstat_bytes, filestat_bytes, prestat_bytes};
-pub use result_layout::{Places, Shape};
+pub use result_layout::{ResultAddresses, Shape};
 pub use sandbox::Sandbox;
 pub use starting::{start, start_over};
 pub use tree::SandboxTree;

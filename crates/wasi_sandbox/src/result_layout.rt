@@ -9,7 +9,7 @@ use wasi_guest::{Call, Value, in_memory, write_bytes};
 /// The addresses in a guest's memory to which the results of a call go. A call with one result uses the first alone, and
 /// one with none uses neither.
 #[derive(Clone, Copy, Debug, PartialEq, Eq)]
-pub struct Places {
+pub struct ResultAddresses {
     pub first: u32,
     pub second: u32,
 }
@@ -75,7 +75,7 @@ impl Shape {
 
     /// Whether each address is aligned as the result that goes there wants it, and the result's bytes from it on are in
     /// memory.
-    pub fn has_room(self, memory: &[u8], to: Places) -> bool
+    pub fn has_room(self, memory: &[u8], to: ResultAddresses) -> bool
         ensures test { result ≡ has_room (length memory.now) self to }
     {
         match self {
@@ -92,7 +92,7 @@ impl Shape {
 
     /// Puts what a call of this shape was answered where its results go; a number of more than 32 bits by its low 32
     /// where there is room for so many. What no call of this shape is answered isn't put.
-    pub fn put(self, memory: &mut [u8], to: Places, value: Value)
+    pub fn put(self, memory: &mut [u8], to: ResultAddresses, value: Value)
         requires room { IsTrue (has_room (length memory.old) self to) }
         ensures put { memory.new ≡ with_result memory.old self to value }
         ensures size { length memory.new ≡ length memory.old }
@@ -114,7 +114,7 @@ impl Shape {
         }
     }
 
-    fn put_number(self, memory: &mut [u8], to: Places, n: u64)
+    fn put_number(self, memory: &mut [u8], to: ResultAddresses, n: u64)
         requires room { IsTrue (has_room (length memory.old) self to) }
         ensures put { memory.new ≡ with_result memory.old self to (Number n) }
         ensures size { length memory.new ≡ length memory.old }
@@ -128,7 +128,7 @@ impl Shape {
         }
     }
 
-    fn put_pair(self, memory: &mut [u8], to: Places, first: u32, second: u32)
+    fn put_pair(self, memory: &mut [u8], to: ResultAddresses, first: u32, second: u32)
         requires room { IsTrue (has_room (length memory.old) self to) }
         ensures put { memory.new ≡ with_result memory.old self to (Pair first second) }
         ensures size { length memory.new ≡ length memory.old }

@@ -8,7 +8,7 @@ ghost use Rattle.wasi_sandbox.specs.Telling.{Tells};
 ghost use Rattle.wasi_overlay.specs.Overlay.{IsFreshOn};
 ghost use Rattle.wasi_p1_types.specs.Quotas.{IsWithinQuota};
 
-use crate::result_layout::{Places, Shape};
+use crate::result_layout::{ResultAddresses, Shape};
 use crate::tree::SandboxTree;
 use std::alloc::{AllocError, Global};
 use wasi_guest::{Answers, QuotaUsed};
@@ -70,7 +70,7 @@ impl<T: SandboxTree> Sandbox<T> {
         &mut self,
         memory: &mut [u8],
         request: Call,
-        to: Places,
+        to: ResultAddresses,
     ) -> Result<Value, P1Error>
         ensures called { CalledInto T.seen self.old self.new memory.old memory.new request to result }
     {

@@ -6,9 +6,9 @@ ghost use Rattle.wasi_host_faults.specs.Faults.{numbers_rise};
 ghost use Rattle.wasi_guest.specs.Quotas.{IsQuota};
 ghost use Rattle.wasi_form.specs.LimitsForm.{default_limits};
 ghost use Rattle.wasi_form.specs.Plan.{drafted, planned, planned_preopen};
-ghost use Rattle.wasi_form.specs.Within.{is_directory_given};
+ghost use Rattle.wasi_form.specs.Within.{is_directory_data};
 ghost use Rattle.wasi_setup.specs.Start.{IsWithinOn};
-ghost use Rattle.wasi_tree.specs.Given.{given_of};
+ghost use Rattle.wasi_tree.specs.NodeData.{data_of_node};
 ghost use Rattle.wasi_sandbox.specs.Starting.{has_no_guest, has_no_tree, JudgesOver, StartsBy, StartsOver};
 
 use crate::error::StartError;
@@ -52,7 +52,7 @@ fn has_no_tree(draft: &Draft) -> bool
 }
 
 fn is_directory(base: &MemTree, node: u64) -> bool
-    ensures { result ≡ is_directory_given (slice_get (map given_of base.now.tree.nodes) node) }
+    ensures { result ≡ is_directory_data (slice_get (map data_of_node base.now.tree.nodes) node) }
 {
     match base.node(node) {
         Some(view) => matches!(view.content, ContentView::Dir),
@@ -61,8 +61,8 @@ fn is_directory(base: &MemTree, node: u64) -> bool
 }
 
 fn are_directories(base: &MemTree, preopens: &[ScriptPreopen]) -> bool
-    ensures { result ≡ list_all (λ preopen. is_directory_given
-        (slice_get (map given_of base.now.tree.nodes) (planned_preopen preopen).node)) preopens.now }
+    ensures { result ≡ list_all (λ preopen. is_directory_data
+        (slice_get (map data_of_node base.now.tree.nodes) (planned_preopen preopen).node)) preopens.now }
 {
     preopens
         .iter()

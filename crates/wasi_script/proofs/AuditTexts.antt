@@ -16,18 +16,18 @@ use Rattle.wasi_form.proofs.Accepted.{limits_kept}
 use Rattle.wasi_host.specs.HostLaws.{FaultCount}
 use Rattle.wasi_report.specs.Audit.{AuditedPreopen, audit_text, audited, audited_preopen}
 use Rattle.wasi_report.specs.declared.audit.PreopenNodes.{PreopenNodes}
-use Rattle.wasi_script.specs.Audited.{Audits, HasAudit, listed_preopens, names_given}
+use Rattle.wasi_script.specs.Audited.{Audits, HasAudit, listed_preopens, preopen_names}
 use Rattle.wasi_script.specs.AuditedRun.{AuditedRun, Covers, StartsAudit}
 use Rattle.wasi_script.specs.Headline.{fueled_calls}
 use Rattle.wasi_script.specs.Through.{IsListed}
-use Rattle.wasi_setup.specs.Start.{start, first_guest_slots, given_guest_slots}
+use Rattle.wasi_setup.specs.Start.{start, first_guest_slots, preopen_guest_slots}
 use Rattle.wasi_p1_types.specs.Guest.{State, GuestSlot, perms_in}
 use Rattle.wasi_p1_model.specs.Trace.{Allows, named}
 use Rattle.wasi_script.proofs.Headlines.{run_more}
 
 -- ---- the guest at the start
 
-length-given : (place : ℕ) (preopens : List PlannedPreopen) → length (given_guest_slots place preopens) ≡ length preopens
+length-given : (place : ℕ) (preopens : List PlannedPreopen) → length (preopen_guest_slots place preopens) ≡ length preopens
 length-given place [] = refl
 length-given place (p ∷ ps) = let rest = length-given (suc place) ps in omega (arith, rest)
 
@@ -35,14 +35,14 @@ length-given place (p ∷ ps) = let rest = length-given (suc place) ps in omega 
 starts_covered : (plan : Plan) → Covers (first_stems (length plan.preopens)) (length plan.preopens) (start plan).guest
 starts_covered plan fd perms has = by fd has
   where
-    within : (i : ℕ) → perms_in (slice_get (given_guest_slots 0 plan.preopens) i) ≡ Some perms → i < length plan.preopens
-    within i is = found (slice_get (given_guest_slots 0 plan.preopens) i) refl is
+    within : (i : ℕ) → perms_in (slice_get (preopen_guest_slots 0 plan.preopens) i) ≡ Some perms → i < length plan.preopens
+    within i is = found (slice_get (preopen_guest_slots 0 plan.preopens) i) refl is
       where
-        found : (p : Option GuestSlot) → slice_get (given_guest_slots 0 plan.preopens) i ≡ p → perms_in p ≡ Some perms
+        found : (p : Option GuestSlot) → slice_get (preopen_guest_slots 0 plan.preopens) i ≡ p → perms_in p ≡ Some perms
             → i < length plan.preopens
         found None at is = absurd (cc)
         found (Some slot) at is =
-            let inside = slice_get_within (given_guest_slots 0 plan.preopens) i slot at in
+            let inside = slice_get_within (preopen_guest_slots 0 plan.preopens) i slot at in
             omega (arith, inside, length-given 0 plan.preopens)
 
     by : (fd : ℕ) → perms_in (slice_get (first_guest_slots plan.preopens) fd) ≡ Some perms
@@ -93,7 +93,7 @@ has_audit {plan} {first} {lists} before now names begun few begins count is size
 
 pub audits : {plan : Plan} {lists : List (List ℕ)} {names : List (List ℕ)} {preopens : List AuditedPreopen} {text : List ℕ}
     (touched : List ℕ) → HasAudit plan lists → IsStrictlyIncreasing touched
-    → ((n : ℕ) → Contains touched n ↔ IsListed lists n) → names ≡ names_given plan
+    → ((n : ℕ) → Contains touched n ↔ IsListed lists n) → names ≡ preopen_names plan
     → preopens ≡ listed_preopens names lists → text ≡ audit_text (record { preopens = preopens; touched = touched })
     → Audits plan text
 audits {plan} {lists} touched has rising joined names_are preopens text = record {
@@ -115,7 +115,7 @@ audits {plan} {lists} touched has rising joined names_are preopens text = record
 
 pub audits_written : {plan : Plan} {lists : List (List ℕ)} {names : List (List ℕ)} (preopens : List PreopenNodes)
     (touched : List ℕ) (result : Result (Vec ℕ Global) AllocError) → HasAudit plan lists → IsStrictlyIncreasing touched
-    → ((n : ℕ) → Contains touched n ↔ IsListed lists n) → names ≡ names_given plan
+    → ((n : ℕ) → Contains touched n ↔ IsListed lists n) → names ≡ preopen_names plan
     → map audited_preopen preopens ≡ listed_preopens names lists
     → IfOk result (λ text. text.items ≡ audit_text (audited preopens touched))
     → IfOk result (λ text. Audits plan text.items)
@@ -124,7 +124,7 @@ audits_written preopens touched (Ok text) has rising joined named listed is = au
 
 -- ---- as many names as directories
 
-pub names_count : (plan : Plan) (names : List (String Global)) → map string_bytes names ≡ names_given plan
+pub names_count : (plan : Plan) (names : List (String Global)) → map string_bytes names ≡ preopen_names plan
     → length names ≡ length plan.preopens
 names_count plan names is = sym (length-map names string_bytes) ∙ ap length is ∙ length-map plan.preopens _
 

@@ -6,12 +6,12 @@ use Rattle.std.specs.List.Sorted.{IsStrictlyIncreasing}
 use Rattle.std.specs.Ordering.{nat_cmp}
 use Rattle.std.proofs.lemmas.List.Elements.{All-weaker, Contains-append_cases, Contains-append_left, Contains-push}
 use Rattle.wasi_host.specs.Agree.{Touches}
-use Rattle.wasi_host.specs.HostLaws.{World, FaultCount, Rose}
+use Rattle.wasi_host.specs.HostLaws.{HostModel, FaultCount, Rose}
 use Rattle.wasi_host.specs.Tree.{Tree, Nodes}
 use Rattle.wasi_audit.specs.Audits.{Stems, Audited, first_stems, noted_lists, started}
 use Rattle.wasi_audit.proofs.Membership.{Contains-noted, length-noted_lists, noted-rising, started-count}
 use Rattle.wasi_guest.specs.declared.answer.Answer.{Answer}
-use Rattle.wasi_p1_model.specs.CallTransition.{Turns, in_world}
+use Rattle.wasi_p1_model.specs.CallTransition.{Turns, in_model}
 use Rattle.wasi_p1_model.specs.DescriptorLaws.{FitsTable}
 use Rattle.wasi_p1_types.specs.Front.{FueledCall}
 use Rattle.wasi_p1_types.specs.Guest.{Guest, State}
@@ -82,11 +82,11 @@ audited {before} {now} {last = last} {lists = lists} errors ran through confined
 }
 
 module _ {before now after : FaultCount} {first : State} {stems : Stems} {given most : ℕ} {calls : List FueledCall}
-    {w v : World} {g g' : Guest} {call : FueledCall} {was is : Audited} {answer : Answer}
-    (so : NotedSoFar before now first stems given most calls (in_world w g) was)
+    {w v : HostModel} {g g' : Guest} {call : FueledCall} {was is : Audited} {answer : Answer}
+    (so : NotedSoFar before now first stems given most calls (in_model w g) was)
     (made : AuditedTurn now after w v g g' call was is answer) where
   abbrev t : TraceStep
-  t = turned (in_world w g) call answer (in_world v g')
+  t = turned (in_model w g) call answer (in_model v g')
 
   abbrev names : List ℕ
   names = descriptors_named g.memory call.call
@@ -193,7 +193,7 @@ module _ {before now after : FaultCount} {first : State} {stems : Stems} {given 
       only (suc i, within, is) = absurd (omega (arith, within))
 
   abbrev answers_now : ends answer ≡ false → SoFar before after first (calls ++ call ∷ []) (so.answered ++ answer ∷ [])
-      (in_world v g') (listed_set is.lists)
+      (in_model v g') (listed_set is.lists)
   answers_now goes = turned_on made.answers made.cause takes so.run goes
 
   errors_now : Allows before after (ios (so.answered ++ answer ∷ []))
@@ -203,10 +203,10 @@ module _ {before now after : FaultCount} {first : State} {stems : Stems} {given 
   stems_now = ap (λ (a : Audited). a.stems) made.notes ∙ ap (λ s. stems_behind s t) so.stems_are
       ∙ sym (over_more stems so.run.turns t)
 
-  confined_now : Confined first (in_world v g') (listed_set is.lists)
+  confined_now : Confined first (in_model v g') (listed_set is.lists)
   confined_now = turn_confines takes so.confined
 
-  pub noted_on : ends answer ≡ false → NotedSoFar before after first stems given most (calls ++ call ∷ []) (in_world v g') is
+  pub noted_on : ends answer ≡ false → NotedSoFar before after first stems given most (calls ++ call ∷ []) (in_model v g') is
   noted_on goes =
       let turns = turned_on_turns made.answers made.cause takes so.run goes in record {
         answered = so.answered ++ answer ∷ [];
@@ -304,15 +304,15 @@ still_counted noted = noted.so.count
     ∙ sym (ap (λ (a : Audited). length a.lists) noted.begins ∙ started-count noted.given)
 
 pub last_counted : {before now after : FaultCount} {first last : State} {begun was is : Audited} {calls : List FueledCall}
-    {w v : World} {g g' : Guest} {call : FueledCall} {answer : Answer} → NotedCalls before now first begun calls last was
+    {w v : HostModel} {g g' : Guest} {call : FueledCall} {answer : Answer} → NotedCalls before now first begun calls last was
     → AuditedTurn now after w v g g' call was is answer → length is.lists ≡ length begun.lists
 last_counted {was = was} {g = g} {call = call} noted made = ap (λ (a : Audited). length a.lists) made.notes
     ∙ length-noted_lists was.stems (descriptors_named g.memory call.call) made.touched was.lists ∙ still_counted noted
 
 pub one_called : {before now after : FaultCount} {first : State} {begun was is : Audited} {calls : List FueledCall}
-    {w v : World} {g g' : Guest} {call : FueledCall} {answer : Answer}
-    → NotedCalls before now first begun calls (in_world w g) was → AuditedTurn now after w v g g' call was is answer
-    → ends answer ≡ false → NotedCalls before after first begun (calls ++ call ∷ []) (in_world v g') is
+    {w v : HostModel} {g g' : Guest} {call : FueledCall} {answer : Answer}
+    → NotedCalls before now first begun calls (in_model w g) was → AuditedTurn now after w v g g' call was is answer
+    → ends answer ≡ false → NotedCalls before after first begun (calls ++ call ∷ []) (in_model v g') is
 one_called noted made goes = record {
   given = noted.given;
   most = noted.most;
@@ -322,8 +322,8 @@ one_called noted made goes = record {
 }
 
 pub last_called : {before now after : FaultCount} {first : State} {begun was is : Audited} {calls : List FueledCall}
-    {w v : World} {g g' : Guest} {call : FueledCall} {answer : Answer} (more : List FueledCall)
-    → NotedCalls before now first begun calls (in_world w g) was → AuditedTurn now after w v g g' call was is answer
+    {w v : HostModel} {g g' : Guest} {call : FueledCall} {answer : Answer} (more : List FueledCall)
+    → NotedCalls before now first begun calls (in_model w g) was → AuditedTurn now after w v g g' call was is answer
     → ends answer ≡ true → AuditedRun before after first (calls ++ call ∷ more) begun.stems is.lists
 last_called {before} {after = after} {first = first} {is = is} {calls = calls} {call = call} more noted made stops =
     subst (λ (a : Audited). AuditedRun before after first (calls ++ call ∷ more) a.stems is.lists) (sym noted.begins)

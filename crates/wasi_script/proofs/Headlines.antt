@@ -8,12 +8,12 @@ use Rattle.std.specs.Ordering.{nat_cmp}
 use Rattle.std.specs.FinSet.{contains, from_list}
 use Rattle.std.proofs.lemmas.List.Elements.{All-weaker}
 use Rattle.wasi_host.specs.Tree.{Nodes}
-use Rattle.wasi_tree.specs.Given.{tree_of}
+use Rattle.wasi_tree.specs.NodeData.{tree_of}
 use Rattle.wasi_host_faults.specs.Faults.{Calls, Failing, counted}
-use Rattle.wasi_host.specs.HostLaws.{FaultCount, World, never_fails}
+use Rattle.wasi_host.specs.HostLaws.{FaultCount, HostModel, never_fails}
 use Rattle.wasi_host_faults.specs.declared.fault.Fault.{Fault}
 use Rattle.wasi_host_faults.proofs.Rising.{counts_few}
-use Rattle.wasi_tree.specs.MemState.{MemState, world_of}
+use Rattle.wasi_tree.specs.MemState.{MemState, model_of}
 use Rattle.wasi_script.specs.HasRun.{HasRun}
 use Rattle.wasi_setup.specs.ReportAfter.{report_after}
 use Rattle.wasi_script.specs.Headline.{Reports, fueled_calls}
@@ -24,7 +24,7 @@ use Rattle.wasi_p1_types.specs.Front.{FueledCall}
 use Rattle.wasi_p1_model.specs.Trace.{TraceStep, Spends, Trace, Allows, RefinesTrace, ends, ios, named}
 use Rattle.wasi_form.specs.Plan.{Plan}
 use Rattle.wasi_p1_types.specs.Slots.{View}
-use Rattle.wasi_setup.specs.Start.{seen_by, start, with_pieces, world_behind, IsBegun}
+use Rattle.wasi_setup.specs.Start.{seen_by, start, with_pieces, model_behind, IsBegun}
 use Rattle.wasi_p1_types.specs.Guest.{State, guest_by, state_of}
 use Rattle.wasi_guest.specs.declared.answer.Answer.{Answer}
 use Rattle.wasi_p1_model.proofs.QuotaRuns.{run_counts, run_within}
@@ -76,23 +76,23 @@ few_behind first last before now none still = rw (none, still) (few_listed befor
 
 pub begun_at : {context : View (Failing MemState)} {memory : List ℕ} (plan : Plan)
     → IsBegun context (tree_of plan.nodes plan.limits) plan.preopens plan.services plan.quota plan.table
-    → memory ≡ with_pieces (replicate plan.size 0) plan.pieces → state_of world_behind context memory ≡ start plan
+    → memory ≡ with_pieces (replicate plan.size 0) plan.pieces → state_of model_behind context memory ≡ start plan
 begun_at {memory} plan is memory-is = is.state memory ∙ (rw memory-is refl)
 
 -- the state of a context over a world
-abbrev state_on : {T : Type 0} → View (Failing T) → List ℕ → World → State
+abbrev state_on : {T : Type 0} → View (Failing T) → List ℕ → HostModel → State
 state_on context memory w = record { tree = w.tree; guest = guest_by w.held context memory }
 
 -- that over a tree of any kind, and a run to it, as over a tree in memory
-module _ {T : Type 0} {world : T → World} (seen : T → MemState) (same : (t : T) → world t ≡ world_of (seen t))
+module _ {T : Type 0} {model : T → HostModel} (seen : T → MemState) (same : (t : T) → model t ≡ model_of (seen t))
     (context : View (Failing T)) (memory : List ℕ) where
-  pub state_seen : state_of (λ (s : Failing T). world s.inner) context memory
-      ≡ state_of world_behind (seen_by seen context) memory
+  pub state_seen : state_of (λ (s : Failing T). model s.inner) context memory
+      ≡ state_of model_behind (seen_by seen context) memory
   state_seen = ap (state_on context memory) (same context.host.inner)
 
   pub run_seen : {plan : Plan} {answers : List Answer}
-      → HasRun plan (state_of (λ (s : Failing T). world s.inner) context memory) answers (world context.host.inner).touched
-      → HasRun plan (state_of world_behind (seen_by seen context) memory) answers (seen context.host.inner).touched
+      → HasRun plan (state_of (λ (s : Failing T). model s.inner) context memory) answers (model context.host.inner).touched
+      → HasRun plan (state_of model_behind (seen_by seen context) memory) answers (seen context.host.inner).touched
   run_seen {plan} {answers} run =
       subst (λ w. HasRun plan (state_on context memory w) answers w.touched) (same context.host.inner) run
 

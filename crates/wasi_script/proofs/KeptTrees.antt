@@ -15,9 +15,9 @@ use Rattle.wasi_host.specs.Tree.{Tree, Node, Names, Content, node_at, next_of, s
 use Rattle.wasi_host.proofs.Agreeing.{one}
 use Rattle.wasi_form.specs.Plan.{Plan, PlannedPreopen}
 use Rattle.wasi_form.specs.Verdict.{IsVerdict}
-use Rattle.wasi_form.specs.Within.{is_directory_given, is_within_limits}
+use Rattle.wasi_form.specs.Within.{is_directory_data, is_within_limits}
 use Rattle.wasi_form.proofs.Accepted.{IsAccepted, accepted, limits_kept}
-use Rattle.wasi_tree.specs.Given.{Given, GivenContent, file, directory, link, content_from, content_given, given_of, node_from, nodes_from, tree_of}
+use Rattle.wasi_tree.specs.NodeData.{NodeData, ContentData, file, directory, link, content_from, data_of_content, data_of_node, node_from, nodes_from, tree_of}
 use Rattle.wasi_tree.proofs.FitValid.{fit_is_valid, next_is, node_is}
 use Rattle.wasi_p1_model.specs.QuotaLaws.{WritesAsOpened}
 use Rattle.wasi_p1_model.specs.AppendOnly.{AppendsAtEnd, HasStill, KeepsNode, MayAlterNothing, NodesAreThere}
@@ -31,7 +31,7 @@ use Rattle.wasi_p1_model.proofs.Permitting.{run_leaves}
 use Rattle.wasi_script.specs.Due.{Due, the_usage, the_refusal, the_outcome, the_line, IsOwed, OfDue, Writes, KeepsTree}
 use Rattle.wasi_setup.specs.ReportAfter.{report_after}
 use Rattle.wasi_script.specs.Headline.{Reports, GivesNoAltering, GivesReadOnly, IsStillTold, MayNotBeAltered, TellsKeptNodes, TellsOwnTree, TellsStill, fueled_calls, names_told, own_nodes, node_in_order}
-use Rattle.wasi_setup.specs.Start.{start, first_guest_slots, given_guest_slot, given_guest_slots}
+use Rattle.wasi_setup.specs.Start.{start, first_guest_slots, preopen_guest_slot, preopen_guest_slots}
 use Rattle.wasi_script.specs.declared.status.Status.{Status}
 use Rattle.wasi_script.specs.declared.status.Status.TheVariants as statuses
 use Rattle.wasi_script.specs.declared.words.Task.{Task}
@@ -41,19 +41,19 @@ use Rattle.wasi_script.specs.declared.words.ScriptTask.TheVariants.{Run, Audit, 
 -- ---- the guest at the start
 
 -- what a number stands for: one of the directories that the guest is given
-pub record IsGiven (preopens : List PlannedPreopen) (slot : GuestSlot) : Type 0 where
+pub record IsPreopen (preopens : List PlannedPreopen) (slot : GuestSlot) : Type 0 where
   pub place : ℕ
   pub preopen : PlannedPreopen
   pub among : Contains preopens preopen
-  pub is : slot ≡ given_guest_slot place preopen
+  pub is : slot ≡ preopen_guest_slot place preopen
 
-given_slot : (place : ℕ) (preopens : List PlannedPreopen) (n : ℕ) (slot : GuestSlot)
-    → slice_get (given_guest_slots place preopens) n ≡ Some slot → IsGiven preopens slot
-given_slot place [] n slot has = absurd (cc)
-given_slot place (p ∷ ps) zero slot has =
-    record { place = place; preopen = p; among = (zero, omega arith, refl); is = let same : slot ≡ given_guest_slot place p = (cc) in same }
-given_slot place (p ∷ ps) (suc n) slot has =
-    let rest = given_slot (suc place) ps n slot has in record {
+preopen_slot : (place : ℕ) (preopens : List PlannedPreopen) (n : ℕ) (slot : GuestSlot)
+    → slice_get (preopen_guest_slots place preopens) n ≡ Some slot → IsPreopen preopens slot
+preopen_slot place [] n slot has = absurd (cc)
+preopen_slot place (p ∷ ps) zero slot has =
+    record { place = place; preopen = p; among = (zero, omega arith, refl); is = let same : slot ≡ preopen_guest_slot place p = (cc) in same }
+preopen_slot place (p ∷ ps) (suc n) slot has =
+    let rest = preopen_slot (suc place) ps n slot has in record {
       place = rest.place;
       preopen = rest.preopen;
       among = Contains-append_right (p ∷ []) ps rest.preopen rest.among;
@@ -62,11 +62,11 @@ given_slot place (p ∷ ps) (suc n) slot has =
 
 -- or a stream
 first_slot : (preopens : List PlannedPreopen) (n : ℕ) (slot : GuestSlot)
-    → slice_get (first_guest_slots preopens) n ≡ Some slot → ((s : Stream) × (slot ≡ stream s)) ⊎ IsGiven preopens slot
+    → slice_get (first_guest_slots preopens) n ≡ Some slot → ((s : Stream) × (slot ≡ stream s)) ⊎ IsPreopen preopens slot
 first_slot preopens zero slot has = inl (Input, let same : slot ≡ stream Input = (cc) in same)
 first_slot preopens (suc zero) slot has = inl (Output, let same : slot ≡ stream Output = (cc) in same)
 first_slot preopens (suc (suc zero)) slot has = inl (Error, let same : slot ≡ stream Error = (cc) in same)
-first_slot preopens (suc (suc (suc n))) slot has = inr (given_slot 0 preopens n slot has)
+first_slot preopens (suc (suc (suc n))) slot has = inr (preopen_slot 0 preopens n slot has)
 
 -- so its permissions are those of such a directory
 given_perms : (plan : Plan) (n : ℕ) (perms : FsPerms) → HasPerms (start plan).guest n perms
@@ -115,13 +115,13 @@ starts_there : (plan : Plan) → is_within_limits plan ≡ true → NodesAreTher
 starts_there plan within n node has = by (slice_get (first_guest_slots plan.preopens) n) refl has
   where
     is_given : PlannedPreopen → Bool
-    is_given preopen = is_directory_given (slice_get plan.nodes preopen.node)
+    is_given preopen = is_directory_data (slice_get plan.nodes preopen.node)
 
     inside : (preopen : PlannedPreopen) → Contains plan.preopens preopen → preopen.node < length plan.nodes
     inside preopen among = found (slice_get plan.nodes preopen.node) refl (All-contains (λ p. is_given p ≡ true)
         plan.preopens preopen (AllPass-from_list_all is_given plan.preopens (limits_kept plan within).preopens) among)
       where
-        found : (o : Option Given) → slice_get plan.nodes preopen.node ≡ o → is_directory_given o ≡ true
+        found : (o : Option NodeData) → slice_get plan.nodes preopen.node ≡ o → is_directory_data o ≡ true
             → preopen.node < length plan.nodes
         found None at is = absurd (cc)
         found (Some g) at is = slice_get_within plan.nodes preopen.node g at
@@ -144,20 +144,20 @@ listed_again : (names : Names) (name : List ℕ) → maps.get (names_told (maps.
 listed_again names name =
     maps.get-from_entries nat_list_cmp_total (maps.entries names) name ∙ sym (maps.get-entries names name)
 
-tells_still : (all : List Given) (k : ℕ) (was : GivenContent) (now : Content) → HasStill (content_from all k was) now
-    → TellsStill was (content_given now)
-tells_still all k (file bytes) now (more, names, is, fewer) = (more, ap content_given is)
+tells_still : (all : List NodeData) (k : ℕ) (was : ContentData) (now : Content) → HasStill (content_from all k was) now
+    → TellsStill was (data_of_content now)
+tells_still all k (file bytes) now (more, names, is, fewer) = (more, ap data_of_content is)
 tells_still all k (directory entries) now (others, is, kept) =
-    (maps.entries others, ap content_given is, λ name n has. listed_again others name ∙ kept name n has)
-tells_still all k (link text) now (names, is, fewer) = ap content_given is
+    (maps.entries others, ap data_of_content is, λ name n has. listed_again others name ∙ kept name n has)
+tells_still all k (link text) now (names, is, fewer) = ap data_of_content is
 
-still_told : (plan : Plan) (t : Tree) (n : ℕ) (was : Given) → slice_get plan.nodes n ≡ Some was → n < next_of t
-    → KeepsNode (start plan).tree t n → (now : Given) × (slice_get (map given_of t.nodes) n ≡ Some now) × IsStillTold was now
+still_told : (plan : Plan) (t : Tree) (n : ℕ) (was : NodeData) → slice_get plan.nodes n ≡ Some was → n < next_of t
+    → KeepsNode (start plan).tree t n → (now : NodeData) × (slice_get (map data_of_node t.nodes) n ≡ Some now) × IsStillTold was now
 unfolding node_at
 still_told plan t n was at within kept =
     let is = node_is plan.nodes plan.limits n was at in (
-      given_of (node_at t n),
-      slice_get-map given_of t.nodes n ∙ ap (λ o. option_map given_of o) (slice_get-get_or t.nodes n stray within),
+      data_of_node (node_at t n),
+      slice_get-map data_of_node t.nodes n ∙ ap (λ o. option_map data_of_node o) (slice_get-get_or t.nodes n stray within),
       record {
         content = tells_still plan.nodes n was.content (node_at t n).content
             (subst (λ (node : Node). HasStill node.content (node_at t n).content) is kept.content);
@@ -168,21 +168,21 @@ still_told plan t n was at within kept =
       },
     )
 
-pub tree_again : (plan : Plan) → map given_of (tree_of plan.nodes plan.limits).nodes ≡ own_nodes plan
+pub tree_again : (plan : Plan) → map data_of_node (tree_of plan.nodes plan.limits).nodes ≡ own_nodes plan
 unfolding tree_of
 tree_again plan = told_again plan.nodes 0 plan.nodes
   where
-    node : (all : List Given) (k : ℕ) (g : Given) → given_of (node_from all k g) ≡ node_in_order g
+    node : (all : List NodeData) (k : ℕ) (g : NodeData) → data_of_node (node_from all k g) ≡ node_in_order g
     node all k g = by g.content
       where
-        by : (content : GivenContent) → given_of (node_from all k (record g { content = content }))
+        by : (content : ContentData) → data_of_node (node_from all k (record g { content = content }))
             ≡ node_in_order (record g { content = content })
         by (file bytes) = refl
         by (directory entries) = refl
         by (link text) = refl
 
-    told_again : (all : List Given) (k : ℕ) (nodes : List Given)
-        → map given_of (nodes_from all k nodes) ≡ map node_in_order nodes
+    told_again : (all : List NodeData) (k : ℕ) (nodes : List NodeData)
+        → map data_of_node (nodes_from all k nodes) ≡ map node_in_order nodes
     told_again all k [] = refl
     told_again all k (g ∷ gs) = λ i. node all k g i ∷ told_again all (k + 1) gs i
 
@@ -218,7 +218,7 @@ tells_own plan reports only = record {
   ordered = reports.ordered;
   text_is = reports.text_is;
   tree =
-      ap (λ (t : Tree). map given_of t.nodes)
+      ap (λ (t : Tree). map data_of_node t.nodes)
       (run_leaves (length plan.faults) (start plan) reports.last (fueled_calls plan) reports.turns reports.run
       (starts_read_only plan only))
       ∙ tree_again plan;

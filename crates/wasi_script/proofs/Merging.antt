@@ -3,7 +3,7 @@ use Rattle.std.proofs.Common.{ℕ, ◌≡◌, inl, inr, true, false, List, lengt
 use Rattle.std.specs.FinSet.{contains, from_list}
 use Rattle.std.proofs.lemmas.Bool.{true≢false, false_from_ne_true, cases_lt}
 use Rattle.wasi_host.specs.Tree.{Tree, next_of}
-use Rattle.wasi_tree.specs.Given.{given_of, tree_of}
+use Rattle.wasi_tree.specs.NodeData.{data_of_node, tree_of}
 use Rattle.wasi_form.specs.Plan.{Plan}
 use Rattle.wasi_setup.specs.Merged.{IsMergedTree}
 use Rattle.wasi_setup.specs.Start.{start}
@@ -21,9 +21,9 @@ reports_over plan run = run_over (length plan.faults) (start plan) run.last (fue
 
 -- what isn't worked on is told as of the base
 told_over : {base t : Tree} → IsMergedTree base t → (n : ℕ) → contains t.worked n ≡ false
-    → slice_get (map given_of t.nodes) n ≡ slice_get (map given_of base.nodes) n
+    → slice_get (map data_of_node t.nodes) n ≡ slice_get (map data_of_node base.nodes) n
 told_over {base} {t} over n not_worked = let grows = over.grows in elim (cases_lt n (next_of base)) [
-  | inl within ↦ told_at t n (omega arith) ∙ ap (λ node. Some (given_of node)) (over.others n not_worked)
+  | inl within ↦ told_at t n (omega arith) ∙ ap (λ node. Some (data_of_node node)) (over.others n not_worked)
       ∙ sym (told_at base n within)
   | inr past ↦ elim (cases_lt n (next_of t)) [
     | inl within ↦
@@ -34,7 +34,7 @@ told_over {base} {t} over n not_worked = let grows = over.grows in elim (cases_l
 
 -- the nodes of a report are the script's own but for those that are kept
 pub reports_merged : (plan : Plan) {line : List ℕ} (run : Reports plan line) (kept : List ℕ)
-    → from_list kept ≡ run.last.tree.worked → IsMerged (own_nodes plan) kept (map given_of run.last.tree.nodes)
+    → from_list kept ≡ run.last.tree.worked → IsMerged (own_nodes plan) kept (map data_of_node run.last.tree.nodes)
 reports_merged plan run kept worked = record {
   others = λ n other.
       let not_worked = false_from_ne_true (contains run.last.tree.worked n)

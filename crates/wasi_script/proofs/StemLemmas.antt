@@ -6,7 +6,7 @@ use Rattle.std.specs.List.{flat_map}
 use Rattle.std.proofs.lemmas.Option.{slice_get_within}
 use Rattle.std.proofs.lemmas.List.Elements.{Contains-append_cases}
 use Rattle.wasi_fs.specs.declared.perms.FsPerms.{FsPerms}
-use Rattle.wasi_host.specs.HostLaws.{World}
+use Rattle.wasi_host.specs.HostLaws.{HostModel}
 use Rattle.wasi_host.specs.Tree.{Tree, next_of}
 use Rattle.wasi_host.specs.ValidTree.{Reached, root, held}
 use Rattle.wasi_audit.specs.Audits.{Stems, is_named_from, stems_after}
@@ -18,7 +18,7 @@ use Rattle.wasi_guest.specs.declared.answer.Value.{Value}
 use Rattle.wasi_guest.specs.declared.answer.Value.TheVariants.{Number}
 use Rattle.wasi_guest.specs.declared.call.Call.{Call}
 use Rattle.wasi_guest.specs.declared.call.Call.TheVariants as calls
-use Rattle.wasi_p1_model.specs.CallTransition.{Turns, in_world}
+use Rattle.wasi_p1_model.specs.CallTransition.{Turns, in_model}
 use Rattle.wasi_p1_model.specs.DescriptorLaws.{FitsTable}
 use Rattle.wasi_p1_types.specs.Front.{FueledCall, with_fuel}
 use Rattle.wasi_p1_types.specs.Guest.{Guest, State, node_in}
@@ -162,12 +162,12 @@ not_ok_short : (call : Call) (answer : Answer) → ((x : Value) → answer ≡ a
 not_ok_short (calls.PathOpen _ _ _ _ _ _ _ _) (answers.Ok x) never = absurd (never x refl)
 not_ok_short call answer never = tt
 
-pub short_call : {rose : Type 0} {w v : World} {g g' : Guest} {call : FueledCall} {answer : Answer}
+pub short_call : {rose : Type 0} {w v : HostModel} {g g' : Guest} {call : FueledCall} {answer : Answer}
     (result : Result Value P1Error) → answer_of result ≡ Some answer → Turns rose w v g g' call result
     → NumbersAreShort g → IsShort call.call answer
 short_call {w = w} {v = v} {g = g} {g' = g'} {call = call} {answer = answer} (Ok x) is takes (most, fits, below) =
     let same : answer ≡ answers.Ok x = (cc) in
-    short_answer (in_world w g) (in_world v g') call.call call.fuel most answer x same takes.turn fits below
+    short_answer (in_model w g) (in_model v g') call.call call.fuel most answer x same takes.turn fits below
 short_call {call = call} {answer = answer} (Err e) is takes short = not_ok_short call.call answer (never e is)
   where
     never : (e : P1Error) → answer_of (Err e) ≡ Some answer → (x : Value) → answer ≡ answers.Ok x → ⊥

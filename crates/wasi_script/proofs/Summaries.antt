@@ -16,7 +16,7 @@ use Rattle.wasi_p1_model.specs.Trace.{is_success}
 use Rattle.wasi_form.specs.Plan.{Plan}
 use Rattle.wasi_script_gen.specs.GenScript.{gen_script}
 use Rattle.wasi_script.specs.HasRun.{IsRanOf}
-use Rattle.wasi_setup.specs.Start.{world_behind}
+use Rattle.wasi_setup.specs.Start.{model_behind}
 use Rattle.wasi_script.specs.Summary.{bytes_in_answer, bytes_answered, summary_line, Summarizes}
 use Rattle.wasi_script.specs.declared.run.Ran.{Ran}
 
@@ -45,7 +45,7 @@ all_read calls answers i is =
 pub summarizes : {plan : Plan} {ran : Ran MemState} (n calls ok bytes nodes : ℕ) (result : Result (String Global) AllocError)
     → plan ≡ gen_script n → IsRanOf plan (λ m. m) ran → calls ≡ length ran.calls.items
     → ok ≡ count_by is_success ran.answers.answers → bytes ≡ bytes_answered ran.calls.items ran.answers.answers
-    → nodes ≡ length (world_behind ran.context.host).tree.nodes
+    → nodes ≡ length (model_behind ran.context.host).tree.nodes
     → IfOk result (λ line. string_bytes line ≡ summary_line n calls ok bytes nodes)
     → IfOk result (λ line. Summarizes n (string_bytes line))
 summarizes n calls ok bytes nodes (Err error) plan-is run calls-is ok-is bytes-is nodes-is line-is = tt
@@ -53,7 +53,7 @@ summarizes {plan} {ran} n calls ok bytes nodes (Ok line) plan-is run calls-is ok
     let made : IsRanOf (gen_script n) (λ m. m) ran = subst (λ p. IsRanOf p (λ m. m) ran) plan-is run in
     record {
       turns = made.run.turns;
-      last = state_of world_behind ran.context ran.memory;
+      last = state_of model_behind ran.context ran.memory;
       run = made.run.run;
       text_is = line-is ∙ rw (calls-is, ok-is, bytes-is, nodes-is, made.calls, made.run.answers_are) refl;
     }

@@ -76,40 +76,40 @@ no_script_some bytes (scripts.Refused refusal) reads = (bytes, reads)
 no_script_some bytes scripts.Memory reads = tt
 
 -- what reading left of a script, whose report was written
-pub leaves_unread : {told rose : Type 0} {taken now text rest : List ℕ} {status : Status} (left : List ℕ)
-    → rest ≡ left_unread left → Written told rose taken now text statuses.Done status → LeavesBytes status left rest
+pub leaves_unread : {modelled rose : Type 0} {taken now text rest : List ℕ} {status : Status} (left : List ℕ)
+    → rest ≡ left_unread left → Written modelled rose taken now text statuses.Done status → LeavesBytes status left rest
 leaves_unread left is (whole took) = is
 leaves_unread left is (in_part failed took) = is
 
 -- ---- writing
 
 -- a report that was written isn't a fault of reading
-pub no_read_fault : {told rose Anything : Type 0} {taken now text : List ℕ} {status : Status}
-    → Written told rose taken now text statuses.Done status → status ≡ statuses.ReadFault → Anything
+pub no_read_fault : {modelled rose Anything : Type 0} {taken now text : List ℕ} {status : Status}
+    → Written modelled rose taken now text statuses.Done status → status ≡ statuses.ReadFault → Anything
 no_read_fault (whole took) is = absurd (cc)
 no_read_fault (in_part failed took) is = absurd (cc)
 
 -- where it is a fault of writing the sink has failed
-pub write_failed : {told rose : Type 0} {taken now text : List ℕ} {status : Status}
-    → Written told rose taken now text statuses.Done status → status ≡ statuses.WriteFault → rose
+pub write_failed : {modelled rose : Type 0} {taken now text : List ℕ} {status : Status}
+    → Written modelled rose taken now text statuses.Done status → status ≡ statuses.WriteFault → rose
 write_failed (whole took) is = absurd (cc)
 write_failed (in_part failed took) is = failed
 
 -- nor is it the usage line's
-pub no_usage : {told rose Anything : Type 0} {taken now text : List ℕ} {status : Status}
-    → Written told rose taken now text statuses.Done status → status ≡ statuses.Usage → Anything
+pub no_usage : {modelled rose Anything : Type 0} {taken now text : List ℕ} {status : Status}
+    → Written modelled rose taken now text statuses.Done status → status ≡ statuses.Usage → Anything
 no_usage (whole took) is = absurd (cc)
 no_usage (in_part failed took) is = absurd (cc)
 
 -- nor does the sink have to be as it was before it
-pub may_take : {told rose : Type 0} {taken now text : List ℕ} {status : Status}
-    → Written told rose taken now text statuses.Done status → KeepsSink status taken now
+pub may_take : {modelled rose : Type 0} {taken now text : List ℕ} {status : Status}
+    → Written modelled rose taken now text statuses.Done status → KeepsSink status taken now
 may_take (whole took) = tt
 may_take (in_part failed took) = tt
 
 -- what was written under the status that is due
-pub writes : {told rose : Type 0} {taken now text : List ℕ} {status : Status} (d : Due) → told → IsText d text
-    → Written told rose taken now text (status_of d) status → Writes status d taken now
+pub writes : {modelled rose : Type 0} {taken now text : List ℕ} {status : Status} (d : Due) → modelled → IsText d text
+    → Written modelled rose taken now text (status_of d) status → Writes status d taken now
 writes {text} the_usage tells is (whole took) = record { text = text; is_text = is; took = took tells }
 writes {text} the_usage tells is (in_part failed took) = record { text = text; is_text = is; front = took tells }
 writes {text} (the_refusal refusal) tells is (whole took) = record { text = text; is_text = is; took = took tells }
@@ -119,8 +119,8 @@ writes {text} (the_outcome task plan) tells is (in_part failed took) = record { 
 writes {text} (the_line n) tells is (whole took) = record { text = text; is_text = is; took = took tells }
 writes {text} (the_line n) tells is (in_part failed took) = record { text = text; is_text = is; front = took tells }
 
-is_due : {told rose : Type 0} {taken now text : List ℕ} {status : Status} (d : Due)
-    → Written told rose taken now text (status_of d) status → IsDue status d
+is_due : {modelled rose : Type 0} {taken now text : List ℕ} {status : Status} (d : Due)
+    → Written modelled rose taken now text (status_of d) status → IsDue status d
 is_due the_usage (whole took) = refl
 is_due the_usage (in_part failed took) = tt
 is_due (the_refusal refusal) (whole took) = refl
@@ -131,8 +131,8 @@ is_due (the_line n) (whole took) = refl
 is_due (the_line n) (in_part failed took) = tt
 
 -- what holds of what was due when it was written
-of_due : {told rose : Type 0} {taken now text : List ℕ} {status : Status} (task : Task)
-    (left : List ℕ) (Holds : Due → Type 0) (d : Due) → IsOwed task left d → Written told rose taken now text (status_of d) status
+of_due : {modelled rose : Type 0} {taken now text : List ℕ} {status : Status} (task : Task)
+    (left : List ℕ) (Holds : Due → Type 0) (d : Due) → IsOwed task left d → Written modelled rose taken now text (status_of d) status
     → Holds d → OfDue status task left Holds
 of_due task left Holds the_usage owed (whole took) holds = (the_usage, owed, holds)
 of_due task left Holds the_usage owed (in_part failed took) holds = (the_usage, owed, holds)
@@ -143,12 +143,12 @@ of_due task left Holds (the_outcome wanted plan) owed (in_part failed took) hold
 of_due task left Holds (the_line n) owed (whole took) holds = (the_line n, owed, holds)
 of_due task left Holds (the_line n) owed (in_part failed took) holds = (the_line n, owed, holds)
 
-pub is_due_by : {told rose : Type 0} {taken now text : List ℕ} {status : Status} (task : Task) (left : List ℕ) (d : Due)
-    → IsOwed task left d → Written told rose taken now text (status_of d) status → OfDue status task left (IsDue status)
+pub is_due_by : {modelled rose : Type 0} {taken now text : List ℕ} {status : Status} (task : Task) (left : List ℕ) (d : Due)
+    → IsOwed task left d → Written modelled rose taken now text (status_of d) status → OfDue status task left (IsDue status)
 is_due_by {status} task left d owed was = of_due task left (IsDue status) d owed was (is_due d was)
 
-pub writes_due : {told rose : Type 0} {taken now text : List ℕ} {status : Status} (task : Task) (left : List ℕ) (d : Due)
-    → IsOwed task left d → told → IsText d text → Written told rose taken now text (status_of d) status
+pub writes_due : {modelled rose : Type 0} {taken now text : List ℕ} {status : Status} (task : Task) (left : List ℕ) (d : Due)
+    → IsOwed task left d → modelled → IsText d text → Written modelled rose taken now text (status_of d) status
     → OfDue status task left (λ due. Writes status due taken now)
 writes_due {taken} {now} {status} task left d owed tells is was =
     of_due task left (λ due. Writes status due taken now) d owed was (writes d tells is was)
@@ -156,8 +156,8 @@ writes_due {taken} {now} {status} task left d owed tells is was =
 -- ---- a script that was made
 
 -- its line was written, or a front of it, or memory was wanted
-pub ends_made : {told rose : Type 0} {taken now text : List ℕ} {status : Status}
-    → Written told rose taken now text statuses.Done status → EndsGenerated status
+pub ends_made : {modelled rose : Type 0} {taken now text : List ℕ} {status : Status}
+    → Written modelled rose taken now text statuses.Done status → EndsGenerated status
 ends_made (whole took) = tt
 ends_made (in_part failed took) = tt
 

@@ -7,7 +7,7 @@ use Rattle.std.specs.FinSet.{contains, empty}
 use Rattle.std.proofs.lemmas.List.Elements.{All-weaker}
 use Rattle.wasi_host.specs.Tree.{Tree}
 use Rattle.wasi_host.specs.declared.limits.Limits.{Limits}
-use Rattle.wasi_tree.specs.Given.{Given, tree_of}
+use Rattle.wasi_tree.specs.NodeData.{NodeData, tree_of}
 use Rattle.wasi_form.specs.Plan.{Plan}
 use Rattle.wasi_report.specs.Report.{Report, report_text, reported as report_of}
 use Rattle.wasi_report.specs.Trial.{trial_by, trial_text}
@@ -16,7 +16,7 @@ use Rattle.wasi_host_faults.specs.Faults.{Failing}
 use Rattle.wasi_tree.specs.MemState.{MemState}
 use Rattle.wasi_p1_types.specs.Guest.{State, state_of}
 use Rattle.wasi_p1_model.specs.Trace.{TraceStep}
-use Rattle.wasi_setup.specs.Start.{world_behind}
+use Rattle.wasi_setup.specs.Start.{model_behind}
 use Rattle.wasi_setup.specs.ReportAfter.{report_after}
 use Rattle.wasi_script.specs.HasRun.{IsRanOf, IsToldOf}
 use Rattle.wasi_script.specs.Headline.{own_nodes}
@@ -29,7 +29,7 @@ use Rattle.wasi_setup.proofs.ListedNodes.{in_listed}
 use Rattle.wasi_script.proofs.Merging.{reports_merged, reports_over}
 
 -- over a tree of nodes on which no step has worked, that very tree
-pub overlaid_is : {base over : Tree} (nodes : List Given) (limits : Limits) → base ≡ tree_of nodes limits
+pub overlaid_is : {base over : Tree} (nodes : List NodeData) (limits : Limits) → base ≡ tree_of nodes limits
     → over ≡ record base { worked = empty } → over ≡ tree_of nodes limits
 unfolding tree_of
 overlaid_is nodes limits base-is over-is = over-is ∙ ap (λ (t : Tree). record t { worked = empty }) base-is
@@ -42,7 +42,7 @@ pub tries : {plan : Plan} (base : MemState) (all : Ran MemState) (end : RunEnd M
 unfolding FitsTrial reported
 tries base all end (Err error) base-is ran came told = tt
 tries {plan} base all end (Ok text) base-is ran came told =
-    let last : State = state_of world_behind all.context all.memory in
+    let last : State = state_of model_behind all.context all.memory in
     let report : List TraceStep → Report = λ turns. report_after plan.show turns last end.outcome.touched.items in
     let report-is : report_of end.outcome end.host.inner.tree.nodes ≡ record (report []) { answers = all.answers.answers } =
     rw (came.answers, came.shown, ran.show, came.stdout, came.stderr, came.host) refl in

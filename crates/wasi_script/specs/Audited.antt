@@ -15,8 +15,8 @@ use Rattle.wasi_p1_model.specs.Reach.{InReach}
 use Rattle.wasi_p1_model.specs.Trace.{TraceStep, Trace, answers_of, ios, named}
 
 -- the names of the directories that the guest is given
-abbrev pub names_given : Plan → List (List ℕ)
-names_given plan = map (λ preopen. preopen.name) plan.preopens
+abbrev pub preopen_names : Plan → List (List ℕ)
+preopen_names plan = map (λ preopen. preopen.name) plan.preopens
 
 -- each name beside its list
 abbrev pub listed_preopens : List (List ℕ) → List (List ℕ) → List AuditedPreopen
@@ -42,7 +42,7 @@ pub record Audits (plan : Plan) (text : List ℕ) : Type 0 where
   pub joined : (n : ℕ) → Contains touched n ↔ IsListed lists n
   pub text_is : text
       ≡ audit_text (record {
-        preopens = listed_preopens (names_given plan) lists;
+        preopens = listed_preopens (preopen_names plan) lists;
         touched = touched;
       })
 
@@ -60,6 +60,6 @@ pub record HasAudit (plan : Plan) (lists : List (List ℕ)) : Type 0 where
 
 -- a plan whose calls were made and noted
 pub record IsAuditOf (plan : Plan) (a : ScriptAudit) : Type 0 where
-  pub names : map string_bytes a.names.items ≡ names_given plan
+  pub names : map string_bytes a.names.items ≡ preopen_names plan
   pub short : length plan.preopens < 2 ^ 32
   pub has : HasAudit plan a.audit.lists

@@ -7,7 +7,7 @@ use Rattle.wasi_audit.specs.Audits.{Stems, Audited, first_stems, noted, started}
 use Rattle.wasi_fs.specs.declared.perms.FsPerms.{FsPerms}
 use Rattle.wasi_guest.specs.declared.answer.Answer.{Answer}
 use Rattle.wasi_guest.specs.declared.answer.Value.{Value}
-use Rattle.wasi_host.specs.HostLaws.{World, FaultCount, Rose, forgotten}
+use Rattle.wasi_host.specs.HostLaws.{HostModel, FaultCount, Rose, forgotten}
 use Rattle.wasi_p1_model.specs.CallTransition.{Causes, Turns}
 use Rattle.wasi_p1_model.specs.DescriptorLaws.{FitsTable}
 use Rattle.wasi_p1_types.specs.Front.{FueledCall}
@@ -36,7 +36,7 @@ pub record StartsAudit (g : Guest) (audit : Audited) : Type 0 where
   pub short : NumbersAreShort g
 
 -- A call was answered, and the nodes that it touched, of it alone, were noted
-pub record AuditedTurn (before now : FaultCount) (w v : World) (g g' : Guest) (call : FueledCall) (was is : Audited)
+pub record AuditedTurn (before now : FaultCount) (w v : HostModel) (g g' : Guest) (call : FueledCall) (was is : Audited)
     (answer : Answer) : Type 0 where
   pub result : Result Value P1Error
   pub answers : answer_of result ≡ Some answer

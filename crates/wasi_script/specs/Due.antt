@@ -161,9 +161,9 @@ KeepsSink (statuses.Refused refusal) taken now = ⊤
 KeepsSink statuses.WriteFault taken now = ⊤
 
 -- a text that was written under a status: all of it was taken; or the sink failed, and a front of it was taken
-pub data Written (told rose : Type 0) (taken now text : List ℕ) (status : Status) : Status → Type 0 where
-  whole : (told → now ≡ taken ++ text) → Written told rose taken now text status status
-  in_part : rose → (told → TookFront taken now text) → Written told rose taken now text status statuses.WriteFault
+pub data Written (modelled rose : Type 0) (taken now text : List ℕ) (status : Status) : Status → Type 0 where
+  whole : (modelled → now ≡ taken ++ text) → Written modelled rose taken now text status status
+  in_part : rose → (modelled → TookFront taken now text) → Written modelled rose taken now text status statuses.WriteFault
 
 -- the statuses with which the program ends without a script
 abbrev pub EndsReading : Status → Type 0

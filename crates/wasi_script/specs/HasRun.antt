@@ -12,7 +12,7 @@ use Rattle.wasi_guest.specs.declared.answer.Answer.{Answer}
 use Rattle.wasi_form.specs.Plan.{Plan}
 use Rattle.wasi_script.specs.Headline.{fueled_calls}
 use Rattle.wasi_setup.specs.ReportAfter.{bytes_shown}
-use Rattle.wasi_setup.specs.Start.{seen_by, start, world_behind}
+use Rattle.wasi_setup.specs.Start.{seen_by, start, model_behind}
 use Rattle.wasi_script.specs.declared.run.RunEnd.{RunEnd}
 use Rattle.wasi_script.specs.declared.run.Ran.{Ran}
 
@@ -29,7 +29,7 @@ pub record HasRun (plan : Plan) (last : State) (answers : List Answer) (touched 
 
 -- a plan whose calls were made, over a tree that is seen so; what is to be shown of its memory is within it
 pub record IsRanOf {T : Type 0} (plan : Plan) (seen : T → MemState) (ran : Ran T) : Type 0 where
-  pub run : HasRun plan (state_of world_behind (seen_by seen ran.context) ran.memory) ran.answers.answers
+  pub run : HasRun plan (state_of model_behind (seen_by seen ran.context) ran.memory) ran.answers.answers
       (seen ran.context.host.inner).touched
   pub size : length ran.memory ≡ plan.size
   pub show : ran.show.items ≡ plan.show

@@ -4,7 +4,7 @@ use Rattle.std.specs.FinMap as maps
 use Rattle.std.specs.List.Sorted.{IsStrictlySortedBy}
 use Rattle.std.specs.Ordering.{nat_cmp}
 use Rattle.wasi_host.specs.Tree.{Names}
-use Rattle.wasi_tree.specs.Given.{Given, GivenContent, file, directory, link}
+use Rattle.wasi_tree.specs.NodeData.{NodeData, ContentData, file, directory, link}
 use Rattle.wasi_fs.specs.Perms.{permits}
 use Rattle.wasi_fs.specs.declared.perms.Act.TheVariants.{Alter}
 use Rattle.wasi_fs.specs.declared.perms.FsPerms.TheVariants.{ReadOnly, ReadWrite}
@@ -64,7 +64,7 @@ names_told entries = maps.from_entries entries
 
 -- a content that is told has what another had: a file its bytes, and maybe more behind them; a directory each name, which
 -- holds the node that it held; a link its text
-abbrev pub TellsStill : GivenContent → GivenContent → Type 0
+abbrev pub TellsStill : ContentData → ContentData → Type 0
 TellsStill (file bytes) now = (more : List ℕ) × (now ≡ file (bytes ++ more))
 TellsStill (directory entries) now = (others : List (List ℕ × ℕ)) × (now ≡ directory others)
     × ((name : List ℕ) (n : ℕ) → maps.get (names_told entries) name ≡ Some n
@@ -72,7 +72,7 @@ TellsStill (directory entries) now = (others : List (List ℕ × ℕ)) × (now �
 TellsStill (link text) now = now ≡ link text
 
 -- a node that is told has what another had, with the same bits and times
-pub record IsStillTold (was now : Given) : Type 0 where
+pub record IsStillTold (was now : NodeData) : Type 0 where
   pub content : TellsStill was.content now.content
   pub bits : now.bits ≡ was.bits
   pub atime : now.atime ≡ was.atime
@@ -85,20 +85,20 @@ pub record TellsKeptNodes (plan : Plan) (text : List ℕ) : Type 0 where
   pub report : Report
   pub ordered : IsOrdered report
   pub text_is : text ≡ report_text report
-  pub kept : (n : ℕ) (was : Given) → slice_get plan.nodes n ≡ Some was → MayNotBeAltered plan n
-      → (now : Given) × (slice_get report.tree n ≡ Some now) × IsStillTold was now
+  pub kept : (n : ℕ) (was : NodeData) → slice_get plan.nodes n ≡ Some was → MayNotBeAltered plan n
+      → (now : NodeData) × (slice_get report.tree n ≡ Some now) × IsStillTold was now
 
 -- a directory's names in byte order
-abbrev pub in_order : GivenContent → GivenContent
+abbrev pub in_order : ContentData → ContentData
 in_order (file bytes) = file bytes
 in_order (directory entries) = let names : Names = maps.from_entries entries in directory (maps.entries names)
 in_order (link text) = link text
 
-abbrev pub node_in_order : Given → Given
+abbrev pub node_in_order : NodeData → NodeData
 node_in_order g = record g { content = in_order g.content }
 
 -- the script's own nodes
-abbrev pub own_nodes : Plan → List Given
+abbrev pub own_nodes : Plan → List NodeData
 own_nodes plan = map node_in_order plan.nodes
 
 -- the text is that of a report whose tree is the script's own; it is in range and order, so that its text tells it

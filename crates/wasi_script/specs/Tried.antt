@@ -7,7 +7,7 @@ use Rattle.wasi_form.specs.Plan.{Plan}
 use Rattle.wasi_report.specs.Report.{reported}
 use Rattle.wasi_report.specs.Trial.{Trial, trial_by, trial_text}
 use Rattle.wasi_report.specs.TrialReadBack.{FitsTrial}
-use Rattle.wasi_tree.specs.Given.{tree_of}
+use Rattle.wasi_tree.specs.NodeData.{tree_of}
 use Rattle.wasi_script.specs.Headline.{Reports, own_nodes}
 use Rattle.wasi_script.specs.Merged.{IsMerged}
 use Rattle.wasi_setup.specs.Merged.{IsMergedTree}

@@ -10,7 +10,7 @@ ghost use Rattle.wasi_report.specs.Audit.{audited_preopen};
 ghost use Rattle.wasi_script.specs.Audited.{Audits, IsAuditOf, listed_preopens};
 ghost use Rattle.wasi_script.specs.AuditedRun.{AuditedTurn, AuditedRun, NumbersAreShort, StartsAudit};
 ghost use Rattle.wasi_script.specs.Through.{IsListed, IsShort, effect_of};
-ghost use Rattle.wasi_setup.specs.Start.{world_behind, CanRun};
+ghost use Rattle.wasi_setup.specs.Start.{model_behind, CanRun};
 ghost use Rattle.wasi_p1_types.specs.Front.{with_fuel};
 ghost use Rattle.wasi_p1_types.specs.Guest.{guest_of, state_of};
 
@@ -68,10 +68,10 @@ fn audited_call(
     one: Call,
     audit: &mut Audit,
 ) -> Result<Answer, AllocError>
-    requires short { NumbersAreShort (guest_of world_behind context.old memory.old) }
+    requires short { NumbersAreShort (guest_of model_behind context.old memory.old) }
     ensures { IfOk result (AuditedTurn (counted never_fails context.old.host.calls)
-        (counted never_fails context.new.host.calls) (world_behind context.old.host) (world_behind context.new.host)
-        (guest_of world_behind context.old memory.old) (guest_of world_behind context.new memory.new)
+        (counted never_fails context.new.host.calls) (model_behind context.old.host) (model_behind context.new.host)
+        (guest_of model_behind context.old memory.old) (guest_of model_behind context.new memory.new)
         (with_fuel fuel one) audit.old audit.new) }
 {
     let named = named(alloc, &one, memory)?;
@@ -94,12 +94,12 @@ fn audit_calls(
     calls: &Vec<Call>,
     audit: &mut Audit,
 ) -> Result<(), AllocError>
-    requires starts { StartsAudit (guest_of world_behind context.old memory.old) audit.old }
+    requires starts { StartsAudit (guest_of model_behind context.old memory.old) audit.old }
     ensures most { IfOk result (λ _. (counted never_fails context.new.host.calls).most
         ≡ (counted never_fails context.old.host.calls).most) }
     ensures count { IfOk result (λ _. length audit.new.lists ≡ length audit.old.lists) }
     ensures ran { IfOk result (λ _. AuditedRun (counted never_fails context.old.host.calls)
-        (counted never_fails context.new.host.calls) (state_of world_behind context.old memory.old)
+        (counted never_fails context.new.host.calls) (state_of model_behind context.old memory.old)
         (map (with_fuel fuel) calls.now.items) audit.old.stems audit.new.lists) }
 {
     for one in calls {

@@ -52,7 +52,7 @@ fn read_from<S: Source, A: Allocator + Copy>(
     ensures rising { IfOk result (λ script. IsTrue (numbers_rise script.session.faults.items)) }
     ensures quota { IfOk result (λ script. IsQuota script.session.quota) }
     ensures some { ReadsSome result }
-    ensures read { IsTrue S.told → ReadsScript result (S.left source.old) (S.left source.new) }
+    ensures read { IsTrue S.modelled → ReadsScript result (S.left source.old) (S.left source.new) }
 {
     *buffer = read_all(alloc, source)?;
     Ok(read_script(alloc, room, buffer.as_slice())?)
@@ -75,7 +75,7 @@ fn report_of<A: Allocator + Copy>(
 
 fn written<K: Sink>(sink: &mut K, text: &[u8], status: Status) -> Status
     ensures count { K.faults sink.old ≤ K.faults sink.new }
-    ensures written { Written (IsTrue K.told) (Risen (K.faults sink.old) (K.faults sink.new))
+    ensures written { Written (IsTrue K.modelled) (Risen (K.faults sink.old) (K.faults sink.new))
         (K.taken sink.old) (K.taken sink.new) text.now status result }
 {
     if write_all(sink, text) {
@@ -117,13 +117,13 @@ fn run_source<S: Source, K: Sink>(
     ensures read_fault { result ≡ Status.ReadFault → Risen (S.faults source.old) (S.faults source.new) }
     ensures write_fault { result ≡ Status.WriteFault → Risen (K.faults sink.old) (K.faults sink.new) }
     ensures usage { result ≢ Status.Usage }
-    ensures exact { IsTrue S.told → OfDue result (Task.Script task) (S.left source.old) (IsDue result) }
-    ensures left { IsTrue S.told → LeavesBytes result (S.left source.old) (S.left source.new) }
-    ensures nothing { IsTrue K.told → KeepsSink result (K.taken sink.old) (K.taken sink.new) }
-    ensures some { IsTrue K.told → WritesOfSome result (Task.Script task) (K.taken sink.old) (K.taken sink.new) }
-    ensures writes { IsTrue S.told → IsTrue K.told → OfDue result (Task.Script task) (S.left source.old)
+    ensures exact { IsTrue S.modelled → OfDue result (Task.Script task) (S.left source.old) (IsDue result) }
+    ensures left { IsTrue S.modelled → LeavesBytes result (S.left source.old) (S.left source.new) }
+    ensures nothing { IsTrue K.modelled → KeepsSink result (K.taken sink.old) (K.taken sink.new) }
+    ensures some { IsTrue K.modelled → WritesOfSome result (Task.Script task) (K.taken sink.old) (K.taken sink.new) }
+    ensures writes { IsTrue S.modelled → IsTrue K.modelled → OfDue result (Task.Script task) (S.left source.old)
         (λ due. Writes result due (K.taken sink.old) (K.taken sink.new)) }
-    ensures keeps { IsTrue S.told → IsTrue K.told → OfDue result (Task.Script task) (S.left source.old)
+    ensures keeps { IsTrue S.modelled → IsTrue K.modelled → OfDue result (Task.Script task) (S.left source.old)
         (λ due. KeepsTree result due (K.taken sink.old) (K.taken sink.new)) }
 {
     let room = Bump::new(alloc);
@@ -153,7 +153,7 @@ fn run_generated<K: Sink>(alloc: Global, n: u64, sink: &mut K) -> Status
     ensures sink_count { K.faults sink.old ≤ K.faults sink.new }
     ensures write_fault { result ≡ Status.WriteFault → Risen (K.faults sink.old) (K.faults sink.new) }
     ensures ends { EndsGenerated result }
-    ensures writes { IsTrue K.told → Writes result (the_line n) (K.taken sink.old) (K.taken sink.new) }
+    ensures writes { IsTrue K.modelled → Writes result (the_line n) (K.taken sink.old) (K.taken sink.new) }
 {
     let Ok(line) = summary_of(alloc, n) else {
         return Status::NoMemory;
@@ -188,21 +188,21 @@ pub fn run_script<S: Source, K: Sink>(
         → ((result ≡ Status.Usage) ⊎ (result ≡ Status.WriteFault)) × (source.new ≡ source.old) }
     ensures generates { (n : ℕ) → task_of (map string_bytes words.now.items) ≡ Task.Generate n
         → EndsGenerated result × (source.new ≡ source.old) }
-    ensures exact { IsTrue S.told
+    ensures exact { IsTrue S.modelled
         → OfDue result (task_of (map string_bytes words.now.items)) (S.left source.old) (IsDue result) }
-    ensures left { IsTrue S.told → TakesScript (task_of (map string_bytes words.now.items))
+    ensures left { IsTrue S.modelled → TakesScript (task_of (map string_bytes words.now.items))
         → LeavesBytes result (S.left source.old) (S.left source.new) }
-    ensures usage_line { IsTrue K.told → task_of (map string_bytes words.now.items) ≡ Task.Usage
+    ensures usage_line { IsTrue K.modelled → task_of (map string_bytes words.now.items) ≡ Task.Usage
         → Writes result the_usage (K.taken sink.old) (K.taken sink.new) }
-    ensures line { IsTrue K.told → (n : ℕ) → task_of (map string_bytes words.now.items) ≡ Task.Generate n
+    ensures line { IsTrue K.modelled → (n : ℕ) → task_of (map string_bytes words.now.items) ≡ Task.Generate n
         → Writes result (the_line n) (K.taken sink.old) (K.taken sink.new) }
-    ensures nothing { IsTrue K.told → KeepsSink result (K.taken sink.old) (K.taken sink.new) }
-    ensures some { IsTrue K.told
+    ensures nothing { IsTrue K.modelled → KeepsSink result (K.taken sink.old) (K.taken sink.new) }
+    ensures some { IsTrue K.modelled
         → WritesOfSome result (task_of (map string_bytes words.now.items)) (K.taken sink.old) (K.taken sink.new) }
-    ensures writes { IsTrue S.told → IsTrue K.told
+    ensures writes { IsTrue S.modelled → IsTrue K.modelled
         → OfDue result (task_of (map string_bytes words.now.items)) (S.left source.old)
         (λ due. Writes result due (K.taken sink.old) (K.taken sink.new)) }
-    ensures keeps { IsTrue S.told → IsTrue K.told
+    ensures keeps { IsTrue S.modelled → IsTrue K.modelled
         → OfDue result (task_of (map string_bytes words.now.items)) (S.left source.old)
         (λ due. KeepsTree result due (K.taken sink.old) (K.taken sink.new)) }
 {

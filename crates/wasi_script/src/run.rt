@@ -9,7 +9,7 @@ ghost use Rattle.wasi_guest.specs.Quotas.{IsQuota};
 ghost use Rattle.wasi_host.specs.declared.limits.Limits.{Limits};
 ghost use Rattle.wasi_script.specs.HasRun.{IsRanOf, IsToldOf};
 ghost use Rattle.wasi_setup.specs.Start.{CanRun, IsWithinOn};
-ghost use Rattle.wasi_tree.specs.Given.{Given, tree_of};
+ghost use Rattle.wasi_tree.specs.NodeData.{NodeData, tree_of};
 ghost use Rattle.wasi_tree.specs.MemState.{live_of};
 
 use std::alloc::{AllocError, Global};
@@ -52,7 +52,7 @@ pub fn run_over<T: ScriptTree>(
     requires unasked { (T.seen tree).lookups ≡ [] }
     requires rising { IsTrue (numbers_rise session.faults.items) }
     requires quota { IsQuota session.quota }
-    ensures { IfOk result (λ ran. (nodes : List Given) (limits : Limits) → (T.seen tree).tree ≡ tree_of nodes limits
+    ensures { IfOk result (λ ran. (nodes : List NodeData) (limits : Limits) → (T.seen tree).tree ≡ tree_of nodes limits
         → IsRanOf (planned nodes limits session) T.seen ran) }
 {
     let mut begun = begin_over(alloc, tree, session)?;

@@ -4,8 +4,8 @@ use Rattle.std.specs.Prelude.{sum_by, count_by, nat_eq, nat_lt}
 use Rattle.std.proofs.lemmas.List.FromFn.{length-map-range_with_len, get_or-map-range_with_len}
 use Rattle.std.proofs.lemmas.List.Sums.{sum_by-append}
 use Rattle.wasi_host.specs.declared.limits.Limits.{Limits}
-use Rattle.wasi_tree.specs.Given.{Given, directory, new_given, given_entries, entry_count}
-use Rattle.wasi_tree.specs.GivenTests.{starts_with_directory}
+use Rattle.wasi_tree.specs.NodeData.{NodeData, directory, new_node_data, data_entries, entry_count}
+use Rattle.wasi_tree.specs.NodeDataTests.{starts_with_directory}
 use Rattle.wasi_tree.specs.WellFormed.{AreFit, IsFit, HasPlace, IsFound, at_zero, by_entry, is_fit_entry}
 use Rattle.wasi_script_gen.specs.GenNodes.{numbers, directory_name, root_entry, root_entries, directory_entries, content_of, nodes_of_kind, gen_nodes}
 use Rattle.wasi_script_gen.specs.declared.nodes.Kind.TheVariants as kinds
@@ -21,23 +21,23 @@ root_hit k i = cond (nat_eq (1 + i) k) 1 0
 abbrev inner_hit : ℕ → ℕ → ℕ → ℕ
 inner_hit n k i = count_by (λ e. nat_eq e.1 k) (directory_entries n i)
 
-abbrev hits : ℕ → Given → ℕ
-hits k g = count_by (λ e. nat_eq e.1 k) (given_entries g.content)
+abbrev hits : ℕ → NodeData → ℕ
+hits k g = count_by (λ e. nat_eq e.1 k) (data_entries g.content)
 
 counted : (n k a b : ℕ) → sum_by (root_hit k) (numbers n) ≡ a → sum_by (inner_hit n k) (numbers n) ≡ b
     → entry_count k (gen_nodes n) ≡ a + b
 unfolding gen_nodes
 counted n k a b roots inner =
-    let root : List Given = new_given (directory (root_entries n)) ∷ [] in
+    let root : List NodeData = new_node_data (directory (root_entries n)) ∷ [] in
     let dirs = nodes_of_kind n kinds.Directory in
     let files = nodes_of_kind n kinds.File in
     let links = nodes_of_kind n kinds.Link in
     let in_root : sum_by (hits k) root ≡ a = ap (λ m. 0 + m) (sum_made (λ e. cond (nat_eq e.1 k) 1 0) root_entry (numbers n) ∙ roots) ∙ omega arith in
-    let in_dirs : sum_by (hits k) dirs ≡ b = sum_made (hits k) (λ i. new_given (content_of n kinds.Directory i)) (numbers n) ∙ inner in
+    let in_dirs : sum_by (hits k) dirs ≡ b = sum_made (hits k) (λ i. new_node_data (content_of n kinds.Directory i)) (numbers n) ∙ inner in
     let in_files : sum_by (hits k) files ≡ 0 =
-    sum_made (hits k) (λ i. new_given (content_of n kinds.File i)) (numbers n) ∙ none_hit (λ i. 0) 0 n (λ i low high. refl) in
+    sum_made (hits k) (λ i. new_node_data (content_of n kinds.File i)) (numbers n) ∙ none_hit (λ i. 0) 0 n (λ i low high. refl) in
     let in_links : sum_by (hits k) links ≡ 0 =
-    sum_made (hits k) (λ i. new_given (content_of n kinds.Link i)) (numbers n) ∙ none_hit (λ i. 0) 0 n (λ i low high. refl) in
+    sum_made (hits k) (λ i. new_node_data (content_of n kinds.Link i)) (numbers n) ∙ none_hit (λ i. 0) 0 n (λ i low high. refl) in
     sum_by-append (hits k) (root ++ dirs ++ files) links
     ∙ rw (sum_by-append (hits k) (root ++ dirs) files, sum_by-append (hits k) root dirs, in_root, in_dirs, in_files, in_links) (omega arith)
 
@@ -88,13 +88,13 @@ link_count n j below = counted n (1 + 2 * n + j) 0 1
 
 -- ---- each node
 
-kind_length : (n : ℕ) (f : ℕ → Given) → length (map f (numbers n)) ≡ n
+kind_length : (n : ℕ) (f : ℕ → NodeData) → length (map f (numbers n)) ≡ n
 kind_length n f = length-map-range_with_len f 0 n
 
 pub gen_length : (n : ℕ) → length (gen_nodes n) ≡ 1 + 3 * n
 unfolding gen_nodes
 gen_length n =
-    let root : List Given = new_given (directory (root_entries n)) ∷ [] in
+    let root : List NodeData = new_node_data (directory (root_entries n)) ∷ [] in
     let dirs = nodes_of_kind n kinds.Directory in
     let files = nodes_of_kind n kinds.File in
     let links = nodes_of_kind n kinds.Link in
@@ -102,9 +102,9 @@ gen_length n =
     ∙ rw (
       length-append (root ++ dirs) files,
       length-append root dirs,
-      kind_length n (λ i. new_given (content_of n kinds.Directory i)),
-      kind_length n (λ i. new_given (content_of n kinds.File i)),
-      kind_length n (λ i. new_given (content_of n kinds.Link i)),
+      kind_length n (λ i. new_node_data (content_of n kinds.Directory i)),
+      kind_length n (λ i. new_node_data (content_of n kinds.File i)),
+      kind_length n (λ i. new_node_data (content_of n kinds.Link i)),
     ) (omega arith)
 
 -- the limits within which a tree is made of them
@@ -119,7 +119,7 @@ entry_fits n i k few below =
     let within : nat_lt k (1 + 3 * n) ≡ true = grind (arith) in
     rw (gen_length n, name_fits i few, within) refl
 
-root_fits : (n : ℕ) (limits : Limits) → Fits n limits → IsFit limits (gen_nodes n) 0 (new_given (directory (root_entries n)))
+root_fits : (n : ℕ) (limits : Limits) → Fits n limits → IsFit limits (gen_nodes n) 0 (new_node_data (directory (root_entries n)))
 root_fits n limits fits = (
   omega (arith, fits.nodes),
   (
@@ -137,7 +137,7 @@ is_found n i below =
     (i, omega (arith, length-map-range_with_len root_entry 0 n), get_or-map-range_with_len root_entry 0 n i i (root_entry i) below (omega arith))
 
 directory_fits : (n : ℕ) (limits : Limits) → Fits n limits → (i : ℕ) → i < n
-    → IsFit limits (gen_nodes n) (1 + i) (new_given (content_of n kinds.Directory i))
+    → IsFit limits (gen_nodes n) (1 + i) (new_node_data (content_of n kinds.Directory i))
 directory_fits n limits fits i below =
     let place : suc i ≡ 1 + i = omega arith in
     let file_within : nat_lt (1 + n + i) (1 + 3 * n) ≡ true = grind (arith) in
@@ -152,14 +152,14 @@ directory_fits n limits fits i below =
     )
 
 file_node_fits : (n : ℕ) (limits : Limits) → Fits n limits → (i : ℕ) → i < n
-    → IsFit limits (gen_nodes n) (1 + n + i) (new_given (content_of n kinds.File i))
+    → IsFit limits (gen_nodes n) (1 + n + i) (new_node_data (content_of n kinds.File i))
 file_node_fits n limits fits i below = (
   omega (arith, fits.nodes),
   (file_fits i (omega (arith, fits.few)), omega (arith, file_count n i below, fits.links)),
 )
 
 link_node_fits : (n : ℕ) (limits : Limits) → Fits n limits → (i : ℕ) → i < n
-    → IsFit limits (gen_nodes n) (1 + 2 * n + i) (new_given (content_of n kinds.Link i))
+    → IsFit limits (gen_nodes n) (1 + 2 * n + i) (new_node_data (content_of n kinds.Link i))
 link_node_fits n limits fits i below =
     let next : (i + 1) % n < n = mod-lt (i + 1) (omega (arith, fits.some)) in (
       omega (arith, fits.nodes),
@@ -170,20 +170,20 @@ each_fits : (n : ℕ) (limits : Limits) → Fits n limits → Each (IsFit limits
 unfolding gen_nodes
 each_fits n limits fits =
     let P = IsFit limits (gen_nodes n) in
-    let root : List Given = new_given (directory (root_entries n)) ∷ [] in
+    let root : List NodeData = new_node_data (directory (root_entries n)) ∷ [] in
     let dirs = nodes_of_kind n kinds.Directory in
     let files = nodes_of_kind n kinds.File in
     let links = nodes_of_kind n kinds.Link in
-    let dirs_long = kind_length n (λ i. new_given (content_of n kinds.Directory i)) in
-    let files_long = kind_length n (λ i. new_given (content_of n kinds.File i)) in
+    let dirs_long = kind_length n (λ i. new_node_data (content_of n kinds.Directory i)) in
+    let files_long = kind_length n (λ i. new_node_data (content_of n kinds.File i)) in
     let two_long = length-append root dirs in
     let three_long = length-append (root ++ dirs) files in
     each_append P 0 (1 + 2 * n + 0) (root ++ dirs ++ files) links (omega arith)
     (each_append P 0 (1 + n + 0) (root ++ dirs) files (omega arith)
     (each_append P 0 (1 + 0) root dirs (omega arith) (root_fits n limits fits, tt)
-    (each_made P (λ i. new_given (content_of n kinds.Directory i)) 1 0 n (λ i low high. directory_fits n limits fits i (omega arith))))
-    (each_made P (λ i. new_given (content_of n kinds.File i)) (1 + n) 0 n (λ i low high. file_node_fits n limits fits i (omega arith))))
-    (each_made P (λ i. new_given (content_of n kinds.Link i)) (1 + 2 * n) 0 n (λ i low high. link_node_fits n limits fits i (omega arith)))
+    (each_made P (λ i. new_node_data (content_of n kinds.Directory i)) 1 0 n (λ i low high. directory_fits n limits fits i (omega arith))))
+    (each_made P (λ i. new_node_data (content_of n kinds.File i)) (1 + n) 0 n (λ i low high. file_node_fits n limits fits i (omega arith))))
+    (each_made P (λ i. new_node_data (content_of n kinds.Link i)) (1 + 2 * n) 0 n (λ i low high. link_node_fits n limits fits i (omega arith)))
 
 starts : (n : ℕ) → starts_with_directory (gen_nodes n) ≡ true
 unfolding gen_nodes

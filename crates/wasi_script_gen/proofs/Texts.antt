@@ -14,7 +14,7 @@ use Rattle.std.proofs.lemmas.Str.Parse.{digit_from_value}
 use Rattle.wasi_host.specs.ValidTree.{are_bytes}
 use Rattle.wasi_paths.specs.Text.{is_entry_name}
 use Rattle.wasi_tree.specs.WellFormed.{is_fit_file, is_fit_text}
-use Rattle.wasi_tree.specs.GivenTests.{are_distinct}
+use Rattle.wasi_tree.specs.NodeDataTests.{are_distinct}
 use Rattle.wasi_script_gen.specs.GenNodes.{directory_name, digits, root_entry}
 
 -- ---- digits

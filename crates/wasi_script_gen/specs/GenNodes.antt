@@ -1,7 +1,7 @@
 -- The tree of files of `gen n`, as a list of its nodes: node 0, and then n directories, n files and n links.
 use Rattle.std.specs.Prelude.{ℕ, ◌+◌, ◌*◌, ◌%◌, List, [], ◌∷◌, ◌++◌, map, codes, decimal}
 use Rattle.std.specs.List.{range_with_len}
-use Rattle.wasi_tree.specs.Given.{Given, GivenContent, file, directory, link, new_given}
+use Rattle.wasi_tree.specs.NodeData.{NodeData, ContentData, file, directory, link, new_node_data}
 use Rattle.wasi_script_gen.specs.declared.nodes.Kind.{Kind}
 use Rattle.wasi_script_gen.specs.declared.nodes.Kind.TheVariants as kinds
 
@@ -32,15 +32,15 @@ abbrev pub target_of : ℕ → ℕ → List ℕ
 target_of n i = codes "../" ++ directory_name ((i + 1) % n) ++ codes "/f"
 
 -- the i-th node of a kind
-abbrev pub content_of : ℕ → Kind → ℕ → GivenContent
+abbrev pub content_of : ℕ → Kind → ℕ → ContentData
 content_of n kinds.Directory i = directory (directory_entries n i)
 content_of n kinds.File i = file (digits i)
 content_of n kinds.Link i = link (target_of n i)
 
 -- all nodes of a kind, with the bits and times of new ones
-abbrev pub nodes_of_kind : ℕ → Kind → List Given
-nodes_of_kind n kind = map (λ i. new_given (content_of n kind i)) (numbers n)
+abbrev pub nodes_of_kind : ℕ → Kind → List NodeData
+nodes_of_kind n kind = map (λ i. new_node_data (content_of n kind i)) (numbers n)
 
-unfoldable pub gen_nodes : ℕ → List Given
-gen_nodes n = new_given (directory (root_entries n)) ∷ [] ++ nodes_of_kind n kinds.Directory
+unfoldable pub gen_nodes : ℕ → List NodeData
+gen_nodes n = new_node_data (directory (root_entries n)) ∷ [] ++ nodes_of_kind n kinds.Directory
     ++ nodes_of_kind n kinds.File ++ nodes_of_kind n kinds.Link

@@ -2,7 +2,7 @@
 ghost use Rattle.std.specs.Prelude.{◌≡◌, ◌+◌, ◌*◌, ◌<◌, ◌≤◌, ◌++◌, map, IfOk, OnOk};
 ghost use Rattle.std.specs.String.{string_bytes};
 ghost use Rattle.std.specs.List.{range_with_len};
-ghost use Rattle.wasi_tree.specs.Given.{given, given_content, pair_of};
+ghost use Rattle.wasi_tree.specs.NodeData.{node_data, content_data, pair_of};
 ghost use Rattle.wasi_script_gen.specs.GenNodes as specs;
 ghost use Rattle.wasi_script_gen.specs.GenNodes.{root_entry, nodes_of_kind};
 
@@ -78,7 +78,7 @@ fn target_of(alloc: Global, n: u64, i: u64) -> Result<String, AllocError>
 fn content(alloc: Global, n: u64, kind: Kind, i: u64) -> Result<NewContent, AllocError>
     requires n { n < 10000 }
     requires i { i < n }
-    ensures { IfOk result (λ content. given_content content ≡ specs.content_of n kind i) }
+    ensures { IfOk result (λ content. content_data content ≡ specs.content_of n kind i) }
 {
     match kind {
         Kind::Directory => Ok(NewContent::Dir(directory_entries(alloc, n, i)?)),
@@ -90,7 +90,7 @@ fn content(alloc: Global, n: u64, kind: Kind, i: u64) -> Result<NewContent, Allo
 // Puts all nodes of a kind behind others.
 fn push_all(alloc: Global, nodes: &mut Vec<NewNode>, n: u64, kind: Kind) -> Result<(), AllocError>
     requires { n < 10000 }
-    ensures { OnOk result (map given nodes.new.items ≡ map given nodes.old.items ++ nodes_of_kind n kind) }
+    ensures { OnOk result (map node_data nodes.new.items ≡ map node_data nodes.old.items ++ nodes_of_kind n kind) }
 {
     for i in 0..n {
         nodes.push(NewNode::new(content(alloc, n, kind, i)?))?;
@@ -100,7 +100,7 @@ fn push_all(alloc: Global, nodes: &mut Vec<NewNode>, n: u64, kind: Kind) -> Resu
 
 fn node_list(alloc: Global, n: u64) -> Result<Vec<NewNode>, AllocError>
     requires { n < 10000 }
-    ensures { IfOk result (λ nodes. map given nodes.items ≡ specs.gen_nodes n) }
+    ensures { IfOk result (λ nodes. map node_data nodes.items ≡ specs.gen_nodes n) }
 {
     let mut nodes = Vec::with_capacity(alloc, 1 + 3 * n as usize)?;
     nodes.push(NewNode::new(NewContent::Dir(root_entries(alloc, n)?)))?;

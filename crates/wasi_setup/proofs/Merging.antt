@@ -21,15 +21,15 @@ use Rattle.wasi_host.proofs.Leaving.{Contains-here}
 use Rattle.wasi_resolve.specs.EntryOps as at_place
 use Rattle.wasi_resolve.specs.EntryOps.{EntryOp, call_at, place_for, step_in}
 use Rattle.wasi_resolve.specs.TwoPathOps.{Places, asks_directory, call_at_two, places_for, step_at_two}
-use Rattle.wasi_resolve.specs.PathRequest.{PathRequest, OpenPath, LookPath, AtPlace, TimesPath, AtTwo, path_after, times_through}
+use Rattle.wasi_resolve.specs.PathRequest.{PathRequest, OpenPath, LookPath, AtEntry, TimesPath, AtTwo, path_after, times_through}
 use Rattle.wasi_resolve.specs.Paths.{Opening, Place, opening, step_of, timed}
 use Rattle.wasi_guest.specs.declared.answer.Value.{Value}
 use Rattle.wasi_p1_types.specs.Front.{FueledCall}
 use Rattle.wasi_p1_types.specs.Guest.{Guest, State}
 use Rattle.wasi_p1_types.specs.Quotas.{is_above}
 use Rattle.wasi_p1_types.specs.Request.{Request, Path, Direct, Behind, ListDirectory, Sizes, Grow, after, growth_at}
-use Rattle.wasi_p1_types.specs.CallResult.{CallResult, Program, done, asking, row_on}
-use Rattle.wasi_p1_model.specs.Calls.{row, turn}
+use Rattle.wasi_p1_types.specs.CallResult.{CallResult, Program, done, asking, spec_on}
+use Rattle.wasi_p1_model.specs.Calls.{call_spec, turn}
 use Rattle.wasi_p1_model.specs.Trace.{Faulted, Played, Trace, TraceStep}
 use Rattle.wasi_p1_model.proofs.Moving.{Moves, over_tree, replied_by, run_keeps, turned_moves}
 use Rattle.wasi_setup.specs.Merged.{IsMergedTree}
@@ -243,7 +243,7 @@ path_over t (OpenPath s text o follow directory) = by (opening t s text o follow
     by (Ok e) = step_over t (OpenAt e.directory e.name e.options)
     by (Err code) = over_itself t
 path_over t (LookPath s text follow) = over_itself t
-path_over t (AtPlace s text what) = place_over t what (place_for t s text what)
+path_over t (AtEntry s text what) = place_over t what (place_for t s text what)
 path_over t (TimesPath s text true atime mtime) = by (timed t s text)
   where
     by : (r : Result OpenHandle ErrorCode) → IsMergedTree t (times_through t atime mtime r)
@@ -272,20 +272,20 @@ request_over t (Grow limit w) = over_or (is_above limit (growth_at t limit w)) (
 
 -- ---- turns and runs
 
-row_over : (t : Tree) (m : CallResult (Program (Value × Guest))) (p : Value × State) → row_on t m ≡ Ok p → IsMergedTree t p.1.tree
-row_over t (Ok (done q)) p is = subst (IsMergedTree t) (sym (over_tree (Ok q) is)) (over_itself t)
-row_over t (Ok (asking r next)) p is = subst (IsMergedTree t) (sym (replied_by t r next is).tree) (request_over t r)
-row_over t (Err e) p is = absurd (cc)
+spec_over : (t : Tree) (m : CallResult (Program (Value × Guest))) (p : Value × State) → spec_on t m ≡ Ok p → IsMergedTree t p.1.tree
+spec_over t (Ok (done q)) p is = subst (IsMergedTree t) (sym (over_tree (Ok q) is)) (over_itself t)
+spec_over t (Ok (asking r next)) p is = subst (IsMergedTree t) (sym (replied_by t r next is).tree) (request_over t r)
+spec_over t (Err e) p is = absurd (cc)
 
 pub turned_over : (t : TraceStep) → Played t ⊎ Faulted t → IsMergedTree t.before.tree t.after.tree
 turned_over t took = by (turned_moves t took)
   where
     by : Moves t.before t.after (turn t.before t.call) → IsMergedTree t.before.tree t.after.tree
-    by (inl (x, is)) = row_over t.before.tree (row t.before.guest t.call) (x, t.after) is
+    by (inl (x, is)) = spec_over t.before.tree (call_spec t.before.guest t.call) (x, t.after) is
     by (inr still) = elim still.tree [
       | inl same ↦ subst (IsMergedTree t.before.tree) (sym same) (over_itself t.before.tree)
       | inr step ↦ subst (IsMergedTree t.before.tree) (sym step.tree)
-          (row_over t.before.tree (row t.before.guest t.call) step.given step.answers)
+          (spec_over t.before.tree (call_spec t.before.guest t.call) step.given step.answers)
     ]
 
 -- the tree of a run, however often the host fails in it

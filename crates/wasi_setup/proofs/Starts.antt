@@ -17,8 +17,8 @@ use Rattle.wasi_host.specs.ValidTree.{root, held}
 use Rattle.wasi_host.specs.declared.open_handle.AccessMode.TheVariants.{PathOnly}
 use Rattle.wasi_host.specs.declared.open_handle.OpenHandle.{OpenHandle}
 use Rattle.wasi_host.specs.declared.limits.Limits.{Limits}
-use Rattle.wasi_tree.specs.Given.{Given, GivenContent, file, directory, link, content_from, nodes_from, tree_of}
-use Rattle.wasi_tree.specs.GivenTests.{is_dir_content}
+use Rattle.wasi_tree.specs.NodeData.{NodeData, ContentData, file, directory, link, content_from, nodes_from, tree_of}
+use Rattle.wasi_tree.specs.NodeDataTests.{is_dir_content}
 use Rattle.wasi_host_faults.specs.Faults.{Failing}
 use Rattle.wasi_tree.specs.MemState.{HeldMap, MemState, live_of, held_in}
 use Rattle.wasi_guest.specs.Range.{with_bytes}
@@ -26,15 +26,15 @@ use Rattle.wasi_guest.specs.Services.{Handed}
 use Rattle.wasi_guest.specs.declared.quota.Quota.{Quota}
 use Rattle.wasi_p1_model.specs.Reach.{Confined}
 use Rattle.wasi_form.specs.Plan.{PlannedPreopen, PlannedPiece, planned, planned_preopen, planned_piece}
-use Rattle.wasi_form.specs.Within.{are_preopens_directories, is_directory_given, is_piece_within, is_within_limits}
+use Rattle.wasi_form.specs.Within.{are_preopens_directories, is_directory_data, is_piece_within, is_within_limits}
 use Rattle.wasi_form.specs.declared.script.Session.{Session}
 use Rattle.wasi_form.proofs.Accepted.{limits_kept}
-use Rattle.wasi_p1_types.specs.Slots.{first_slots, given_mode, given_directory, given_name, given_slot, given_slots}
+use Rattle.wasi_p1_types.specs.Slots.{first_slots, preopen_mode, preopen_directory, name_of_preopen, preopen_slot, preopen_slots}
 use Rattle.wasi_p1_types.specs.Quotas.{with_quota}
 use Rattle.wasi_p1_types.specs.GuestEnvModel.{first_stock}
 use Rattle.wasi_p1_model.specs.Owners.{handles, one_if, uses, uses_in, IsHandle}
 use Rattle.wasi_p1_types.specs.declared.slots.P1Preopen.{P1Preopen}
-use Rattle.wasi_setup.specs.Start.{given_guest_slot, given_guest_slots, AreGiven, IsBegun, IsWithinOn, with_pieces}
+use Rattle.wasi_setup.specs.Start.{preopen_guest_slot, preopen_guest_slots, ArePreopens, IsBegun, IsWithinOn, with_pieces}
 use Rattle.wasi_p1_types.specs.Guest.{State, directory as directory_slot, directory_by, guest_slot}
 use Rattle.wasi_form.specs.declared.script.Piece.{Piece}
 use Rattle.wasi_form.specs.declared.script.ScriptPreopen.{ScriptPreopen}
@@ -51,32 +51,32 @@ passes_at p xs i d within all = elim (cases_Bool (p (get_or xs i d))) [
 pub given_is_live : (before now : Handles) (h : ℕ) → now ≡ insert before h → contains now h ≡ true
 given_is_live before now h is = rw is (grind (arith, members, nat_tests))
 
-directory_from : (all : List Given) (k : ℕ) (content : GivenContent) → is_dir_content content ≡ true → is_directory (content_from all k content) ≡ true
+directory_from : (all : List NodeData) (k : ℕ) (content : ContentData) → is_dir_content content ≡ true → is_directory (content_from all k content) ≡ true
 directory_from all k (file bytes) is = absurd (cc)
 directory_from all k (directory entries) is = refl
 directory_from all k (link text) is = absurd (cc)
 
-given_from : (all gs : List Given) (k n : ℕ) → is_directory_given (slice_get gs n) ≡ true → is_directory (slice_index_or (nodes_from all k gs) n stray).content ≡ true
+given_from : (all gs : List NodeData) (k n : ℕ) → is_directory_data (slice_get gs n) ≡ true → is_directory (slice_index_or (nodes_from all k gs) n stray).content ≡ true
 given_from all [] k n is = absurd (cc)
 given_from all (g ∷ gs) k zero is = directory_from all k g.content is
 given_from all (g ∷ gs) k (suc n) is = given_from all gs (k + 1) n is
 
 -- a directory of the list is one of its tree
-pub directory_given : (nodes : List Given) (limits : Limits) (n : ℕ) → is_directory_given (slice_get nodes n) ≡ true → is_directory (node_at (tree_of nodes limits) n).content ≡ true
+pub directory_given : (nodes : List NodeData) (limits : Limits) (n : ℕ) → is_directory_data (slice_get nodes n) ≡ true → is_directory (node_at (tree_of nodes limits) n).content ≡ true
 unfolding node_at tree_of
 directory_given nodes limits n is = given_from nodes nodes 0 n is
 
 -- the directories that the guest is given are
-pub directories_given : (nodes : List Given) (limits : Limits) (preopens : List ScriptPreopen)
+pub directories_given : (nodes : List NodeData) (limits : Limits) (preopens : List ScriptPreopen)
     → are_preopens_directories nodes (map planned_preopen preopens) ≡ true
     → All (λ preopen. is_directory (node_at (tree_of nodes limits) preopen.node).content ≡ true) preopens
 directories_given nodes limits preopens are k d within =
     directory_given nodes limits (get_or preopens k d).node
-    (passes_at (λ preopen. is_directory_given (slice_get nodes (planned_preopen preopen).node)) preopens k d within
-    (sym (list_all-map (λ (preopen : PlannedPreopen). is_directory_given (slice_get nodes preopen.node)) planned_preopen preopens) ∙ are))
+    (passes_at (λ preopen. is_directory_data (slice_get nodes (planned_preopen preopen).node)) preopens k d within
+    (sym (list_all-map (λ (preopen : PlannedPreopen). is_directory_data (slice_get nodes preopen.node)) planned_preopen preopens) ∙ are))
 
 -- a script within the limits can begin on the tree of its nodes
-pub within_on : {tree : Tree} (nodes : List Given) (limits : Limits) (session : Session) → tree ≡ tree_of nodes limits
+pub within_on : {tree : Tree} (nodes : List NodeData) (limits : Limits) (session : Session) → tree ≡ tree_of nodes limits
     → is_within_limits (planned nodes limits session) ≡ true → IsWithinOn tree session
 within_on nodes limits session tree-is within =
     let kept = limits_kept (planned nodes limits session) within in
@@ -94,29 +94,29 @@ IsLiveIn handles preopen = contains (live_of handles) preopen.handle ≡ true
 -- those that were given stand for what they stood for
 slots_again : (old new : HeldMap) (place : ℕ) (given : List P1Preopen) → All (IsLiveIn old) given
     → ((h : ℕ) → contains (live_of old) h ≡ true → held_in new h ≡ held_in old h)
-    → map (guest_slot (held_in new)) (given_slots place given) ≡ map (guest_slot (held_in old)) (given_slots place given)
+    → map (guest_slot (held_in new)) (preopen_slots place given) ≡ map (guest_slot (held_in old)) (preopen_slots place given)
 slots_again old new place [] lives same = refl
 slots_again old new place (p ∷ ps) lives same =
-    let here : guest_slot (held_in new) (given_slot place p) ≡ guest_slot (held_in old) (given_slot place p) =
-    ap (λ (held : OpenHandle). directory_slot (directory_by held (record { dir = given_directory p; preopen = Some place })))
+    let here : guest_slot (held_in new) (preopen_slot place p) ≡ guest_slot (held_in old) (preopen_slot place p) =
+    ap (λ (held : OpenHandle). directory_slot (directory_by held (record { dir = preopen_directory p; preopen = Some place })))
     (same p.handle (All-head (IsLiveIn old) p ps lives)) in
     λ i. here i ∷ slots_again old new (suc place) ps (All-tail (IsLiveIn old) p ps lives) same i
 
 -- one more stands behind them
 slots_more : (holds : ℕ → OpenHandle) (planned : PlannedPreopen) (p : P1Preopen) (place : ℕ) (preopens : List PlannedPreopen)
     (given : List P1Preopen)
-    → map (guest_slot holds) (given_slots place given) ≡ given_guest_slots place preopens
-    → ((n : ℕ) → guest_slot holds (given_slot n p) ≡ given_guest_slot n planned)
-    → map (guest_slot holds) (given_slots place (given ++ p ∷ [])) ≡ given_guest_slots place (preopens ++ planned ∷ [])
+    → map (guest_slot holds) (preopen_slots place given) ≡ preopen_guest_slots place preopens
+    → ((n : ℕ) → guest_slot holds (preopen_slot n p) ≡ preopen_guest_slot n planned)
+    → map (guest_slot holds) (preopen_slots place (given ++ p ∷ [])) ≡ preopen_guest_slots place (preopens ++ planned ∷ [])
 slots_more holds planned p place [] [] are here = λ i. here place i ∷ []
 slots_more holds planned p place (q ∷ preopens) (g ∷ given) are here =
-    let first : guest_slot holds (given_slot place g) ≡ given_guest_slot place q = (cc) in
-    let rest : map (guest_slot holds) (given_slots (suc place) given) ≡ given_guest_slots (suc place) preopens = (cc) in
+    let first : guest_slot holds (preopen_slot place g) ≡ preopen_guest_slot place q = (cc) in
+    let rest : map (guest_slot holds) (preopen_slots (suc place) given) ≡ preopen_guest_slots (suc place) preopens = (cc) in
     λ i. first i ∷ slots_more holds planned p (suc place) preopens given rest here i
 slots_more holds planned p place [] (g ∷ given) are here = absurd (cc)
 slots_more holds planned p place (q ∷ preopens) [] are here = absurd (cc)
 
-pub none_given : {held : HeldMap} → live_of held ≡ empty → AreGiven held [] []
+pub none_given : {held : HeldMap} → live_of held ≡ empty → ArePreopens held [] []
 none_given none = record {
   live = λ k d within. absurd (omega arith);
   once = λ i j d less within. absurd (omega arith);
@@ -127,8 +127,8 @@ none_given none = record {
 
 -- one descriptor more has its own handle
 uses_given : (place : ℕ) (given : List P1Preopen) (p : P1Preopen) (q : ℕ)
-    → uses (handles (given_slots place (given ++ p ∷ []))) q
-    ≡ uses (handles (given_slots place given)) q + uses_in (Some p.handle) q
+    → uses (handles (preopen_slots place (given ++ p ∷ []))) q
+    ≡ uses (handles (preopen_slots place given)) q + uses_in (Some p.handle) q
 uses_given place [] p q = omega (arith, uses-given place p [] q)
 uses_given place (g ∷ gs) p q =
     omega (arith, uses-given place g (gs ++ p ∷ []) q, uses-given place g gs q, uses_given (suc place) gs p q)
@@ -138,12 +138,12 @@ planned_name preopen = preopen.name
 
 -- as many as the directories
 pub given_length : {held : HeldMap} {preopens : List PlannedPreopen} {given : List P1Preopen}
-    → AreGiven held preopens given → length given ≡ length preopens
+    → ArePreopens held preopens given → length given ≡ length preopens
 given_length {preopens = preopens} {given = given} are =
-    sym (length-map given given_name) ∙ ap length are.names ∙ length-map preopens planned_name
+    sym (length-map given name_of_preopen) ∙ ap length are.names ∙ length-map preopens planned_name
 
 -- a new handle, of one directory more
-pub record IsGivenTo (old new : HeldMap) (planned : PlannedPreopen) (preopen : P1Preopen) : Type 0 where
+pub record IsPreopenOf (old new : HeldMap) (planned : PlannedPreopen) (preopen : P1Preopen) : Type 0 where
   pub fresh : contains (live_of old) preopen.handle ≡ false
   pub live : live_of new ≡ insert (live_of old) preopen.handle
   pub held : held_in new preopen.handle ≡ record { node = planned.node; mode = PathOnly }
@@ -153,8 +153,8 @@ pub record IsGivenTo (old new : HeldMap) (planned : PlannedPreopen) (preopen : P
 
 pub given_more : {old new : HeldMap} {planned : PlannedPreopen} {p : P1Preopen} (preopens : List PlannedPreopen)
     (given : List P1Preopen)
-    → AreGiven old preopens given → IsGivenTo old new planned p
-    → AreGiven new (preopens ++ planned ∷ []) (given ++ p ∷ [])
+    → ArePreopens old preopens given → IsPreopenOf old new planned p
+    → ArePreopens new (preopens ++ planned ∷ []) (given ++ p ∷ [])
 given_more {old} {new} {planned} {p} preopens given are is = record {
   live = All-push (IsLiveIn new) given p (All-weaker (IsLiveIn old) (IsLiveIn new) still given are.live) got;
   once = all_pairs_push (λ one other. one.handle ≢ other.handle) given p are.once (λ k d within same.
@@ -164,16 +164,16 @@ given_more {old} {new} {planned} {p} preopens given are is = record {
       directory_slot (record {
         node = (is.held i).node;
         perms = is.perms i;
-        open_mode = given_mode (is.perms i);
+        open_mode = preopen_mode (is.perms i);
         preopen = Some place;
       }));
-  names = rw (map-append given_name given (p ∷ []), map-append planned_name preopens (planned ∷ []))
+  names = rw (map-append name_of_preopen given (p ∷ []), map-append planned_name preopens (planned ∷ []))
       (λ i. are.names i ++ is.name i ∷ []);
   all = λ h live. own h (h == p.handle) refl (sym (ap (λ s. contains s h) is.live) ∙ live);
 }
   where
     own : (h : ℕ) (b : Bool) → (h == p.handle) ≡ b → contains (insert (live_of old) p.handle) h ≡ true
-        → IsHandle (handles (given_slots 0 (given ++ p ∷ []))) h
+        → IsHandle (handles (preopen_slots 0 (given ++ p ∷ []))) h
     own h true same live = let one = ap one_if same in omega (arith, one, uses_given 0 given p h)
     own h false other live =
         let was : contains (live_of old) h ≡ true = grind (arith, members, nat_tests, live, other) in
@@ -190,13 +190,13 @@ given_more {old} {new} {planned} {p} preopens given are is = record {
 pub begun_by : {host : Failing MemState} {tree : Tree} {preopens : List PlannedPreopen} {services : Handed}
     {quota : Quota} {table fuel : ℕ} {list : List P1Preopen}
     → host.inner.tree ≡ tree → host.inner.touched ≡ empty → host.inner.lookups ≡ []
-    → AreGiven host.inner.handles preopens list
+    → ArePreopens host.inner.handles preopens list
     → IsBegun
     (record {
       host = host;
       slots = first_slots list;
       table_max = table;
-      holdings = with_quota quota (first_stock services (map given_name list));
+      holdings = with_quota quota (first_stock services (map name_of_preopen list));
       fuel = fuel;
     })
     tree preopens services quota table

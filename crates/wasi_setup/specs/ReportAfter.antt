@@ -1,6 +1,6 @@
 -- The report that is told of a run.
 use Rattle.std.specs.Prelude.{ℕ, ◌+◌, List, map, slice_range}
-use Rattle.wasi_tree.specs.Given.{given_of}
+use Rattle.wasi_tree.specs.NodeData.{data_of_node}
 use Rattle.wasi_report.specs.Report.{Report}
 use Rattle.wasi_p1_model.specs.Trace.{TraceStep, answers_of}
 use Rattle.wasi_p1_types.specs.Guest.{State}
@@ -18,5 +18,5 @@ report_after show turns last touched = record {
   stderr = last.guest.holdings.stderr;
   stdout = last.guest.holdings.stdout;
   touched = touched;
-  tree = map given_of last.tree.nodes;
+  tree = map data_of_node last.tree.nodes;
 }

@@ -4,11 +4,11 @@ use Rattle.std.specs.FinSet.{empty, contains}
 use Rattle.std.specs.List.{list_all}
 use Rattle.std.specs.String.{string_bytes}
 use Rattle.wasi_host.specs.Tree.{Tree, node_at, is_directory}
-use Rattle.wasi_host.specs.HostLaws.{World}
-use Rattle.wasi_tree.specs.Given.{tree_of}
+use Rattle.wasi_host.specs.HostLaws.{HostModel}
+use Rattle.wasi_tree.specs.NodeData.{tree_of}
 use Rattle.wasi_host_faults.specs.Faults.{Failing, numbers_rise}
 use Rattle.wasi_guest.specs.Quotas.{IsQuota}
-use Rattle.wasi_tree.specs.MemState.{MemState, HeldMap, live_of, held_in, world_of}
+use Rattle.wasi_tree.specs.MemState.{MemState, HeldMap, live_of, held_in, model_of}
 use Rattle.wasi_guest.specs.Range.{with_bytes}
 use Rattle.wasi_guest.specs.Services.{Handed, handed}
 use Rattle.wasi_guest.specs.declared.quota.Quota.{Quota}
@@ -16,7 +16,7 @@ use Rattle.wasi_form.specs.Plan.{Plan, PlannedPiece, PlannedPreopen, plan, plann
 use Rattle.wasi_form.specs.Within.{is_piece_within, is_within_limits}
 use Rattle.wasi_form.specs.declared.script.Script.{Script}
 use Rattle.wasi_form.specs.declared.script.Session.{Session}
-use Rattle.wasi_p1_types.specs.Slots.{View, given_mode, given_slots}
+use Rattle.wasi_p1_types.specs.Slots.{View, preopen_mode, preopen_slots}
 use Rattle.wasi_p1_types.specs.Guest.{State, GuestSlot, stream, directory, guest_slot, state_of}
 use Rattle.wasi_p1_model.specs.Owners.{handles, IsHandle}
 use Rattle.wasi_p1_types.specs.Quotas.{with_quota}
@@ -27,23 +27,23 @@ use Rattle.wasi_p1_types.specs.declared.slots.Slot.{Slot}
 use Rattle.wasi_p1_types.specs.declared.slots.Stream.TheVariants.{Input, Output, Error}
 
 -- the descriptor of a directory that the guest is given, by its place among them
-abbrev pub given_guest_slot : ℕ → PlannedPreopen → GuestSlot
-given_guest_slot place preopen = directory (record {
+abbrev pub preopen_guest_slot : ℕ → PlannedPreopen → GuestSlot
+preopen_guest_slot place preopen = directory (record {
   node = preopen.node;
   perms = preopen.perms;
-  open_mode = given_mode preopen.perms;
+  open_mode = preopen_mode preopen.perms;
   preopen = Some place;
 })
 
 -- those of directories of which the first has this place
-abbrev pub given_guest_slots : ℕ → List PlannedPreopen → List GuestSlot
-given_guest_slots place [] = []
-given_guest_slots place (preopen ∷ preopens) =
-    given_guest_slot place preopen ∷ given_guest_slots (suc place) preopens
+abbrev pub preopen_guest_slots : ℕ → List PlannedPreopen → List GuestSlot
+preopen_guest_slots place [] = []
+preopen_guest_slots place (preopen ∷ preopens) =
+    preopen_guest_slot place preopen ∷ preopen_guest_slots (suc place) preopens
 
 -- the three streams, then the directories that the guest is given
 abbrev pub first_guest_slots : List PlannedPreopen → List GuestSlot
-first_guest_slots preopens = stream Input ∷ stream Output ∷ stream Error ∷ given_guest_slots 0 preopens
+first_guest_slots preopens = stream Input ∷ stream Output ∷ stream Error ∷ preopen_guest_slots 0 preopens
 
 -- a memory with the pieces written into it, one after another
 abbrev pub with_pieces : List ℕ → List PlannedPiece → List ℕ
@@ -69,8 +69,8 @@ start plan = begun (tree_of plan.nodes plan.limits) plan.preopens plan.services 
     (with_pieces (replicate plan.size 0) plan.pieces)
 
 -- the world of a tree in memory behind calls that fail
-abbrev pub world_behind : Failing MemState → World
-world_behind host = world_of host.inner
+abbrev pub model_behind : Failing MemState → HostModel
+model_behind host = model_of host.inner
 
 -- a tree of any kind, as a tree in memory
 abbrev pub seen_by : {T : Type 0} → (T → MemState) → View (Failing T) → View (Failing MemState)
@@ -91,8 +91,8 @@ OwnAll slots held = (h : ℕ) → contains (live_of held) h ≡ true → IsHandl
 pub record IsBegun (context : View (Failing MemState)) (tree : Tree) (preopens : List PlannedPreopen)
     (services : Handed) (quota : Quota) (table : ℕ) : Type 0 where
   pub state : (memory : List ℕ)
-      → state_of world_behind context memory ≡ begun tree preopens services quota table memory
-  pub untouched : (world_behind context.host).touched ≡ empty
+      → state_of model_behind context memory ≡ begun tree preopens services quota table memory
+  pub untouched : (model_behind context.host).touched ≡ empty
   pub unasked : context.host.inner.lookups ≡ []
   pub alone : OwnAll context.slots context.host.inner.handles
 
@@ -122,9 +122,9 @@ pub record CanRun (script : Script) : Type 0 where
 
 -- handles of these directories in their order, each live and another, with their permissions and names; no other handle
 -- is live
-pub record AreGiven (held : HeldMap) (preopens : List PlannedPreopen) (given : List P1Preopen) : Type 0 where
+pub record ArePreopens (held : HeldMap) (preopens : List PlannedPreopen) (given : List P1Preopen) : Type 0 where
   pub live : All (λ preopen. contains (live_of held) preopen.handle ≡ true) given
   pub once : AllPairs (λ one other. one.handle ≢ other.handle) given
-  pub slots : map (guest_slot (held_in held)) (given_slots 0 given) ≡ given_guest_slots 0 preopens
+  pub slots : map (guest_slot (held_in held)) (preopen_slots 0 given) ≡ preopen_guest_slots 0 preopens
   pub names : map (λ preopen. string_bytes preopen.name) given ≡ map (λ preopen. preopen.name) preopens
-  pub all : OwnAll (given_slots 0 given) held
+  pub all : OwnAll (preopen_slots 0 given) held

@@ -5,7 +5,7 @@ ghost use Rattle.std.specs.List.Sorted.{IsStrictlySortedBy};
 ghost use Rattle.std.specs.Ordering.{nat_cmp};
 ghost use Rattle.wasi_host.specs.Tree.{node_at, is_directory};
 ghost use Rattle.wasi_host.specs.HostLaws.{never_fails};
-ghost use Rattle.wasi_tree.specs.MemState.{MemState, live_of, held_in, world_of};
+ghost use Rattle.wasi_tree.specs.MemState.{MemState, live_of, held_in, model_of};
 
 use std::alloc::{AllocError, Global};
 use wasi_host::{AccessMode, Handle, Host};
@@ -38,10 +38,10 @@ pub trait ScriptTree: Host + Drop {
         ensures rising { IfOk result (λ nodes. IsStrictlySortedBy nat_cmp nodes.items) };
 
     /// It tells its world.
-    ghost is_told: { IsTrue Self.told };
+    ghost is_told: { IsTrue Self.modelled };
 
     /// Its world is what is seen of it.
-    ghost same_world: { (t : Self) → Self.world t ≡ world_of (seen t) };
+    ghost same_model: { (t : Self) → Self.model t ≡ model_of (seen t) };
 
     ghost same_live: { (t : Self) → Self.live t ≡ live_of (seen t).handles };
 
@@ -56,7 +56,7 @@ impl ScriptTree for MemTree {
 
     ghost is_told = { refl };
 
-    ghost same_world = { λ _. refl };
+    ghost same_model = { λ _. refl };
 
     ghost same_live = { λ _. refl };
 
@@ -78,7 +78,7 @@ impl<'a> ScriptTree for Overlay<'a> {
 
     ghost is_told = { refl };
 
-    ghost same_world = { λ _. refl };
+    ghost same_model = { λ _. refl };
 
     ghost same_live = { λ _. refl };
 

@@ -3,14 +3,14 @@ ghost use Rattle.std.specs.Prelude.{◌≡◌, ◌≤◌, ◌+◌, true, [], len
 ghost use Rattle.std.specs.List.{list_all};
 ghost use Rattle.wasi_host.specs.Tree.{node_at, is_directory};
 ghost use Rattle.std.specs.FinSet.{empty};
-ghost use Rattle.wasi_tree.specs.Given.{tree_of};
+ghost use Rattle.wasi_tree.specs.NodeData.{tree_of};
 ghost use Rattle.wasi_tree.specs.MemState.{live_of};
 ghost use Rattle.wasi_host_faults.specs.Faults.{numbers_rise};
 ghost use Rattle.wasi_guest.specs.Quotas.{IsQuota};
 ghost use Rattle.wasi_guest.specs.Services.{handed};
 ghost use Rattle.wasi_form.specs.Plan.{planned_piece, planned_preopen};
 ghost use Rattle.wasi_form.specs.Within.{is_piece_within, is_shown_within};
-ghost use Rattle.wasi_setup.specs.Start.{seen_by, with_pieces, AreGiven, Begins, CanRun, IsBegun, IsWithinOn};
+ghost use Rattle.wasi_setup.specs.Start.{seen_by, with_pieces, ArePreopens, Begins, CanRun, IsBegun, IsWithinOn};
 ghost use Rattle.wasi_setup.specs.ReportAfter.{bytes_shown};
 
 use crate::script_tree::ScriptTree;
@@ -45,7 +45,7 @@ fn preopen_handles<T: ScriptTree>(
     ensures tree { (T.seen tree.new).tree ≡ (T.seen tree.old).tree }
     ensures touched { (T.seen tree.new).touched ≡ (T.seen tree.old).touched }
     ensures lookups { (T.seen tree.new).lookups ≡ (T.seen tree.old).lookups }
-    ensures given { IfOk result (λ given. AreGiven (T.seen tree.new).handles (map planned_preopen preopens.now)
+    ensures given { IfOk result (λ given. ArePreopens (T.seen tree.new).handles (map planned_preopen preopens.now)
         given.items) }
 {
     let mut given = Vec::new(alloc);

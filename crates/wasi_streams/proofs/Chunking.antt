@@ -4,7 +4,7 @@ use Rattle.std.proofs.lemmas.List.{take-append-drop, drop-drop}
 use Rattle.std.proofs.lemmas.Grind.{common_steps}
 use Rattle.wasi_host.specs.Answer.{unless}
 use Rattle.wasi_host.specs.declared.errors.ErrorCode.{ErrorCode}
-use Rattle.wasi_streams.specs.Input.{Input, ReadReply, InputAnswer, InputRow, known, read_then, performed, left, taken, moved_by, waits}
+use Rattle.wasi_streams.specs.Input.{Input, ReadReply, InputAnswer, InputSpec, known, read_then, performed, left, taken, moved_by, waits}
 use Rattle.wasi_streams.specs.Input as rows
 use Rattle.wasi_streams.specs.Reading.{FollowsRead}
 use Rattle.wasi_streams.specs.Chunks.{IsPrefix, FromFile, IsNext, bytes_given, IsCall, was_read, was_ready, was_blocking, was_cancelled, no_call, one_call_more, ChunksArePrefix, ReadsAreFromFile}
@@ -22,7 +22,7 @@ behind : (bytes : List ℕ) (p : ℕ) (front more : List ℕ) → drop p bytes �
 behind bytes p front more is = sym (drop-drop (length front) p bytes) ∙ ap (drop (length front)) is ∙ drop_front front more
 
 -- what a row may answer and leave
-HasAll : {A : Type 0} → (Result A StreamError → ReadState → Type 0) → (ℕ → ReadReply → Type 0) → InputRow A → Type 0
+HasAll : {A : Type 0} → (Result A StreamError → ReadState → Type 0) → (ℕ → ReadReply → Type 0) → InputSpec A → Type 0
 HasAll P reads (known given) = P given.0 given.1
 HasAll P reads (read_then size next) = (reply : ReadReply) → reads size reply → P (next reply).0 (next reply).1
 
@@ -32,8 +32,8 @@ gave P given result new is p = subst (λ a. P a.0 a.1) (sym is) p
 
 -- so it answers and leaves
 follows : {A : Type 0} (P : Result A StreamError → ReadState → Type 0) (reads : ℕ → ReadReply → Type 0) (stays : ReadState)
-    (row : InputRow A) → HasAll P reads row → P (Err errors.Memory) stays → (result : Result A StreamError) (new : ReadState)
-    → FollowsRead (Unit {0}) reads stays row result new → P result new
+    (call_spec : InputSpec A) → HasAll P reads call_spec → P (Err errors.Memory) stays → (result : Result A StreamError) (new : ReadState)
+    → FollowsRead (Unit {0}) reads stays call_spec result new → P result new
 unfolding HasAll
 follows P reads stays (known given) all kept (Ok a) new f = gave P given _ new f.1 all
 follows P reads stays (known given) all kept (Err errors.Memory) new f = subst (P (Err errors.Memory)) (sym f.1) kept
@@ -90,7 +90,7 @@ module _ (bytes : List ℕ) (p : ℕ) where
   unfolding Continues
   kept_next state next = ((drop p bytes, refl), nothing state next)
 
-  ready_next : (state : ReadState) → IsNext bytes p state → HasAll Waits (FromFile bytes p) (rows.ready_row state)
+  ready_next : (state : ReadState) → IsNext bytes p state → HasAll Waits (FromFile bytes p) (rows.ready_spec state)
   unfolding HasAll Waits
   ready_next Idle next = performed_next 4096
   ready_next (Waiting size) next = performed_next size
@@ -107,7 +107,7 @@ module _ (bytes : List ℕ) (p : ℕ) where
   waits_next Closed next = tt
 
   blocking_next : (state : ReadState) (size : ℕ) → IsNext bytes p state
-      → HasAll Continues (FromFile bytes p) (rows.blocking_read_row state size)
+      → HasAll Continues (FromFile bytes p) (rows.blocking_read_spec state size)
   unfolding HasAll
   blocking_next Idle size next = λ reply from. taken_next (performed reply) size (performed_next size reply from)
   blocking_next (Waiting n) size next = λ reply from. taken_next (performed reply) size (performed_next n reply from)
@@ -124,17 +124,17 @@ called : (bytes : List ℕ) (s t : Input) (chunk : List ℕ) → IsNext bytes s.
     → IsPrefix chunk (drop s.position bytes) × (t.position ≡ s.position + length chunk) × IsNext bytes t.position t.state
 unfolding Continues Waits HasAll
 called bytes s t chunk next (was_read size result gives at) =
-    let row : InputRow (List ℕ) = known (taken s.state size) in
-    let on = follows (Continues bytes s.position) (FromFile bytes s.position) s.state row
+    let call_spec : InputSpec (List ℕ) = known (taken s.state size) in
+    let on = follows (Continues bytes s.position) (FromFile bytes s.position) s.state call_spec
     (taken_next bytes s.position s.state size next) (kept_next bytes s.position s.state next) result t.state (tt, gives) in
     let place = at ∙ ap (λ n. s.position + n) (moved_given result) in
     (on.0, place, rw place on.1)
 called bytes s t chunk next (was_ready result f at) =
-    let on = follows (Waits bytes s.position) (FromFile bytes s.position) (waits s.state) (rows.ready_row s.state)
+    let on = follows (Waits bytes s.position) (FromFile bytes s.position) (waits s.state) (rows.ready_spec s.state)
     (ready_next bytes s.position s.state next) (waits_next bytes s.position s.state next) result t.state f in
     ((drop s.position bytes, refl), at ∙ sym (add-zero s.position), rw at on)
 called bytes s t chunk next (was_blocking size result f at) =
-    let on = follows (Continues bytes s.position) (FromFile bytes s.position) s.state (rows.blocking_read_row s.state size)
+    let on = follows (Continues bytes s.position) (FromFile bytes s.position) s.state (rows.blocking_read_spec s.state size)
     (blocking_next bytes s.position s.state size next) (kept_next bytes s.position s.state next) result t.state f in
     let place = at ∙ ap (λ n. s.position + n) (moved_given result) in
     (on.0, place, rw place on.1)

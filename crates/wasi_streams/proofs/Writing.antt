@@ -20,16 +20,16 @@ behind-none Append = refl
 pub took_some : {n all : ℕ} → stands_after n all ≡ None → n ≤ all → (0 < n) × (n < all)
 took_some is fits = (grind (arith, nat_tests), grind (arith, nat_tests))
 
-module _ {told : Bool} {file : ℕ} {old next : HostSeen} {mode : FileOutputMode} {piece : List ℕ} {n : ℕ}
-    (puts : Puts told file old next mode piece (Ok n)) where
+module _ {modelled : Bool} {file : ℕ} {old next : HostSeen} {mode : FileOutputMode} {piece : List ℕ} {n : ℕ}
+    (puts : Puts modelled file old next mode piece (Ok n)) where
   -- it is over
   pub ends : (state : OutputState) → stands_after n (length piece) ≡ Some state
-      → WritesAll told file old mode piece next (behind mode n) state
+      → WritesAll modelled file old mode piece next (behind mode n) state
   ends state is = by (n == length piece) refl is
     where
       none : (some : Bool) → (n == 0) ≡ some → (n == length piece) ≡ false
           → (if some then Some (Error Io) else None) ≡ Some state
-          → WritesAll told file old mode piece next (behind mode n) state
+          → WritesAll modelled file old mode piece next (behind mode n) state
       none true test not_all is =
           let zero : n ≡ 0 = grind (arith, nat_tests) in
           let left : 0 < length piece = grind (arith, nat_tests) in
@@ -39,7 +39,7 @@ module _ {told : Bool} {file : ℕ} {old next : HostSeen} {mode : FileOutputMode
 
       by : (all : Bool) → (n == length piece) ≡ all
           → (if all then Some Ready else (if n == 0 then Some (Error Io) else None)) ≡ Some state
-          → WritesAll told file old mode piece next (behind mode n) state
+          → WritesAll modelled file old mode piece next (behind mode n) state
       by true all is =
           let whole : n ≡ length piece = grind (arith, nat_tests) in
           let same : Ready ≡ state = (cc) in
@@ -48,6 +48,6 @@ module _ {told : Bool} {file : ℕ} {old next : HostSeen} {mode : FileOutputMode
 
   -- it goes on
   pub goes_on : {new : HostSeen} {end : FileOutputMode} {state : OutputState} → stands_after n (length piece) ≡ None
-      → WritesAll told file next (behind mode n) (drop n piece) new end state
-      → WritesAll told file old mode piece new end state
+      → WritesAll modelled file next (behind mode n) (drop n piece) new end state
+      → WritesAll modelled file old mode piece new end state
   goes_on is rest = let some = took_some is puts.fits in a_front puts some.0 some.1 rest

@@ -1,6 +1,6 @@
 -- The bytes that an input stream gives, while its file is unchanged.
 use Rattle.std.specs.Prelude.{◌≡◌, ℕ, ◌+◌, min, true, List, [], ◌++◌, take, drop, Result, Ok, Err}
-use Rattle.wasi_streams.specs.Input.{Input, ReadReply, taken, ready_row, blocking_read_row, waits, moved_by}
+use Rattle.wasi_streams.specs.Input.{Input, ReadReply, taken, ready_spec, blocking_read_spec, waits, moved_by}
 use Rattle.wasi_streams.specs.Reading.{HostSeen, HasRead, GivesAs, FollowsRead}
 use Rattle.wasi_host.specs.Tree.{node_at, bytes_of}
 use Rattle.wasi_streams.specs.declared.input.ReadState.{ReadState}
@@ -35,10 +35,10 @@ pub data IsCall (bytes : List ℕ) : Input → List ℕ → Input → Type 0 whe
       → GivesAs (taken s.state size) s.state result t.state → t.position ≡ s.position + moved_by result
       → IsCall bytes s (bytes_given result) t
   was_ready : {s t : Input} (result : Result (Unit {0}) StreamError)
-      → FollowsRead (Unit {0}) (FromFile bytes s.position) (waits s.state) (ready_row s.state) result t.state
+      → FollowsRead (Unit {0}) (FromFile bytes s.position) (waits s.state) (ready_spec s.state) result t.state
       → t.position ≡ s.position → IsCall bytes s [] t
   was_blocking : {s t : Input} (size : ℕ) (result : Result (List ℕ) StreamError)
-      → FollowsRead (Unit {0}) (FromFile bytes s.position) s.state (blocking_read_row s.state size) result t.state
+      → FollowsRead (Unit {0}) (FromFile bytes s.position) s.state (blocking_read_spec s.state size) result t.state
       → t.position ≡ s.position + moved_by result → IsCall bytes s (bytes_given result) t
   was_cancelled : {s t : Input} → t.state ≡ Closed → t.position ≡ s.position → IsCall bytes s [] t
 
@@ -56,4 +56,4 @@ ChunksArePrefix = (bytes chunks : List ℕ) (s t : Input) → IsNext bytes s.pos
 -- a read of a host that tells its world gives the bytes of the file's node
 abbrev pub ReadsAreFromFile : Type 0
 ReadsAreFromFile = (old new : HostSeen) (file position size : ℕ) (reply : ReadReply) → HasRead true old new file position size reply
-    → FromFile (bytes_of (node_at old.world.tree (old.world.held file).node).content) position size reply
+    → FromFile (bytes_of (node_at old.model.tree (old.model.held file).node).content) position size reply

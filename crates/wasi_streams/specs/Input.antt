@@ -44,9 +44,9 @@ abbrev pub InputAnswer : Type 0 → Type 0
 InputAnswer A = Result A StreamError × ReadState
 
 -- a call asks nothing of the file, or makes one read, from whose reply its answer follows
-pub data InputRow (A : Type 0) : Type 0 where
-  known : InputAnswer A → InputRow A
-  read_then : ℕ → (ReadReply → InputAnswer A) → InputRow A
+pub data InputSpec (A : Type 0) : Type 0 where
+  known : InputAnswer A → InputSpec A
+  read_then : ℕ → (ReadReply → InputAnswer A) → InputSpec A
 
 -- `read` of so many bytes
 abbrev pub taken : ReadState → ℕ → InputAnswer (List ℕ)
@@ -57,20 +57,20 @@ taken (Error code) size = (Err (errors.LastOperationFailed code), Closed)
 taken Closed size = (Err errors.Closed, Closed)
 
 -- `ready`
-abbrev pub ready_row : ReadState → InputRow (Unit {0})
-ready_row Idle = read_then 4096 (λ reply. (Ok tt, performed reply))
-ready_row (Waiting size) = read_then size (λ reply. (Ok tt, performed reply))
-ready_row (DataAvailable bytes) = known (Ok tt, DataAvailable bytes)
-ready_row (Error code) = known (Ok tt, Error code)
-ready_row Closed = known (Ok tt, Closed)
+abbrev pub ready_spec : ReadState → InputSpec (Unit {0})
+ready_spec Idle = read_then 4096 (λ reply. (Ok tt, performed reply))
+ready_spec (Waiting size) = read_then size (λ reply. (Ok tt, performed reply))
+ready_spec (DataAvailable bytes) = known (Ok tt, DataAvailable bytes)
+ready_spec (Error code) = known (Ok tt, Error code)
+ready_spec Closed = known (Ok tt, Closed)
 
 -- `blocking_read` of so many bytes
-abbrev pub blocking_read_row : ReadState → ℕ → InputRow (List ℕ)
-blocking_read_row Idle size = read_then size (λ reply. taken (performed reply) size)
-blocking_read_row (Waiting more) size = read_then more (λ reply. taken (performed reply) size)
-blocking_read_row (DataAvailable bytes) size = known (taken (DataAvailable bytes) size)
-blocking_read_row (Error code) size = known (taken (Error code) size)
-blocking_read_row Closed size = known (taken Closed size)
+abbrev pub blocking_read_spec : ReadState → ℕ → InputSpec (List ℕ)
+blocking_read_spec Idle size = read_then size (λ reply. taken (performed reply) size)
+blocking_read_spec (Waiting more) size = read_then more (λ reply. taken (performed reply) size)
+blocking_read_spec (DataAvailable bytes) size = known (taken (DataAvailable bytes) size)
+blocking_read_spec (Error code) size = known (taken (Error code) size)
+blocking_read_spec Closed size = known (taken Closed size)
 
 -- what `ready` leaves where memory is wanted
 abbrev pub waits : ReadState → ReadState

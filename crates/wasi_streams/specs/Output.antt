@@ -19,31 +19,31 @@ abbrev pub OutputAnswer : Type 0 → Type 0
 OutputAnswer A = Result A StreamError × OutputState
 
 -- a call asks nothing of the file, or writes these bytes, and its answer follows from how that write stands then
-pub data OutputRow (A : Type 0) : Type 0 where
-  answering : OutputAnswer A → OutputRow A
-  write_then : List ℕ → (OutputState → OutputRow A) → OutputRow A
+pub data OutputSpec (A : Type 0) : Type 0 where
+  answering : OutputAnswer A → OutputSpec A
+  write_then : List ℕ → (OutputState → OutputSpec A) → OutputSpec A
 
 -- `write`
-abbrev pub write_row : OutputState → List ℕ → OutputAnswer (Unit {0})
-write_row Ready bytes =
+abbrev pub write_spec : OutputState → List ℕ → OutputAnswer (Unit {0})
+write_spec Ready bytes =
     if nat_lt 65536 (length bytes) then (Err (errors.Trap Budget), Ready) else (Ok tt, Waiting bytes)
-write_row (Waiting before) bytes = (Err (errors.Trap NotPermitted), Waiting before)
-write_row (Error code) bytes = (Err (errors.Trap NotPermitted), Error code)
-write_row Closed bytes = (Err errors.Closed, Closed)
+write_spec (Waiting before) bytes = (Err (errors.Trap NotPermitted), Waiting before)
+write_spec (Error code) bytes = (Err (errors.Trap NotPermitted), Error code)
+write_spec Closed bytes = (Err errors.Closed, Closed)
 
 -- `flush`
-abbrev pub flush_row : OutputState → OutputAnswer (Unit {0})
-flush_row Ready = (Ok tt, Ready)
-flush_row (Waiting bytes) = (Ok tt, Waiting bytes)
-flush_row (Error code) = (Err (errors.LastOperationFailed code), Closed)
-flush_row Closed = (Err errors.Closed, Closed)
+abbrev pub flush_spec : OutputState → OutputAnswer (Unit {0})
+flush_spec Ready = (Ok tt, Ready)
+flush_spec (Waiting bytes) = (Ok tt, Waiting bytes)
+flush_spec (Error code) = (Err (errors.LastOperationFailed code), Closed)
+flush_spec Closed = (Err errors.Closed, Closed)
 
 -- `check_write`
-abbrev pub check_write_row : OutputState → OutputAnswer ℕ
-check_write_row Ready = (Ok 65536, Ready)
-check_write_row (Waiting bytes) = (Ok 0, Waiting bytes)
-check_write_row (Error code) = (Err (errors.LastOperationFailed code), Closed)
-check_write_row Closed = (Err errors.Closed, Closed)
+abbrev pub check_write_spec : OutputState → OutputAnswer ℕ
+check_write_spec Ready = (Ok 65536, Ready)
+check_write_spec (Waiting bytes) = (Ok 0, Waiting bytes)
+check_write_spec (Error code) = (Err (errors.LastOperationFailed code), Closed)
+check_write_spec Closed = (Err errors.Closed, Closed)
 
 -- how a write stands after a call of the host that took so many of so many bytes; none where it goes on
 abbrev pub stands_after : ℕ → ℕ → Option OutputState
@@ -67,21 +67,21 @@ flushed (Error code) = (Err (errors.LastOperationFailed code), Closed)
 flushed Closed = (Err errors.Closed, Closed)
 
 -- `ready`
-abbrev pub ready_write_row : OutputState → OutputRow (Unit {0})
-ready_write_row (Waiting bytes) = write_then bytes (λ state. answering (write_made state))
-ready_write_row Ready = answering (Ok tt, Ready)
-ready_write_row (Error code) = answering (Ok tt, Error code)
-ready_write_row Closed = answering (Ok tt, Closed)
+abbrev pub ready_write_spec : OutputState → OutputSpec (Unit {0})
+ready_write_spec (Waiting bytes) = write_then bytes (λ state. answering (write_made state))
+ready_write_spec Ready = answering (Ok tt, Ready)
+ready_write_spec (Error code) = answering (Ok tt, Error code)
+ready_write_spec Closed = answering (Ok tt, Closed)
 
 -- `blocking_write_and_flush`: what waits is written first
-abbrev pub write_now : OutputState → List ℕ → OutputRow (Unit {0})
+abbrev pub write_now : OutputState → List ℕ → OutputSpec (Unit {0})
 write_now Ready bytes = write_then bytes (λ state. answering (flushed state))
 write_now (Waiting rest) bytes = answering (flushed (Waiting rest))
 write_now (Error code) bytes = answering (flushed (Error code))
 write_now Closed bytes = answering (flushed Closed)
 
-abbrev pub blocking_write_row : OutputState → List ℕ → OutputRow (Unit {0})
-blocking_write_row Ready bytes = write_now Ready bytes
-blocking_write_row (Waiting before) bytes = write_then before (λ state. write_now state bytes)
-blocking_write_row (Error code) bytes = write_now (Error code) bytes
-blocking_write_row Closed bytes = write_now Closed bytes
+abbrev pub blocking_write_spec : OutputState → List ℕ → OutputSpec (Unit {0})
+blocking_write_spec Ready bytes = write_now Ready bytes
+blocking_write_spec (Waiting before) bytes = write_then before (λ state. write_now state bytes)
+blocking_write_spec (Error code) bytes = write_now (Error code) bytes
+blocking_write_spec Closed bytes = write_now Closed bytes

@@ -2,9 +2,9 @@
 use Rattle.std.specs.Prelude.{◌≡◌, ◌⊎◌, ℕ, ◌^◌, ◌<◌, ◌≤◌, min, Bool, IsTrue, List, length, Result, Ok, Err, IfOk, OnOk}
 use Rattle.std.specs.declared.alloc.AllocError.{AllocError}
 use Rattle.wasi_host.specs.HostCall.{Pread}
-use Rattle.wasi_host.specs.HostLaws.{World, Handles, HasCause, Told, hosted, FaultCount}
+use Rattle.wasi_host.specs.HostLaws.{HostModel, Handles, HasCause, RefinesCall, hosted, FaultCount}
 use Rattle.wasi_host.specs.declared.lookup.Lookup.{Lookup}
-use Rattle.wasi_streams.specs.Input.{ReadReply, InputRow, known, read_then, InputAnswer}
+use Rattle.wasi_streams.specs.Input.{ReadReply, InputSpec, known, read_then, InputAnswer}
 use Rattle.wasi_streams.specs.declared.input.ReadState.{ReadState}
 use Rattle.wasi_streams.specs.declared.errors.StreamError.{StreamError}
 use Rattle.wasi_streams.specs.declared.errors.StreamError.TheVariants.{Memory}
@@ -14,21 +14,21 @@ pub record HostSeen : Type 0 where
   pub faults : FaultCount
   pub live : Handles
   pub lookups : List Lookup
-  pub world : World
+  pub model : HostModel
 
-abbrev pub host_seen : {H : Type 0} → (H → FaultCount) → (H → Handles) → (H → List Lookup) → (H → World) → H → HostSeen
-host_seen faults live lookups world host =
-    record { faults = faults host; live = live host; lookups = lookups host; world = world host }
+abbrev pub host_seen : {H : Type 0} → (H → FaultCount) → (H → Handles) → (H → List Lookup) → (H → HostModel) → H → HostSeen
+host_seen faults live lookups model host =
+    record { faults = faults host; live = live host; lookups = lookups host; model = model host }
 
 -- one read of at most so many bytes was made of the host, with this reply
-pub record HasRead (told : Bool) (old new : HostSeen) (file position size : ℕ) (reply : ReadReply) : Type 0 where
+pub record HasRead (modelled : Bool) (old new : HostSeen) (file position size : ℕ) (reply : ReadReply) : Type 0 where
   pub cause : HasCause old.faults new.faults (hosted reply)
   pub stays : new.live ≡ old.live
   pub logged : new.lookups ≡ old.lookups
   pub fits : IfOk reply (λ bytes. length bytes ≤ min size 65536)
   pub offset : OnOk reply (position < 2 ^ 63)
-  pub meaning : IsTrue told → Told old.live new.live old.world new.world
-      (Pread (old.world.held file) position (min size 65536)) (λ bytes. bytes) (hosted reply)
+  pub meaning : IsTrue modelled → RefinesCall old.live new.live old.model new.model
+      (Pread (old.model.held file) position (min size 65536)) (λ bytes. bytes) (hosted reply)
 
 -- the answer and what is left are these; or memory was wanted, and this is left
 abbrev pub GivesAs : {A : Type 0} → InputAnswer A → ReadState → Result A StreamError → ReadState → Type 0
@@ -37,7 +37,7 @@ GivesAs given stays (Err Memory) new = new ≡ stays
 GivesAs given stays (Err e) new = (Err e, new) ≡ given
 
 -- what the row says, where reads of so many bytes may have such replies; what is left where memory is wanted
-abbrev pub FollowsRead : {A : Type 0} → Type 0 → (ℕ → ReadReply → Type 0) → ReadState → InputRow A → Result A StreamError → ReadState
+abbrev pub FollowsRead : {A : Type 0} → Type 0 → (ℕ → ReadReply → Type 0) → ReadState → InputSpec A → Result A StreamError → ReadState
     → Type 0
 FollowsRead quiet reads stays (known given) result new = quiet × GivesAs given stays result new
 FollowsRead quiet reads stays (read_then size next) (Ok a) new = (reply : ReadReply) × reads size reply × ((Ok a, new) ≡ next reply)

@@ -3,8 +3,8 @@ ghost use Rattle.std.specs.Prelude.{◌≡◌, ◌+◌, ◌⊎◌, true, IsTrue,
 ghost use Rattle.std.specs.Result.{result_map_both};
 ghost use Rattle.std.specs.FinSet.{contains, remove};
 ghost use Rattle.wasi_host.specs.HostCall.{Dup, Close};
-ghost use Rattle.wasi_host.specs.HostLaws.{HasCause, LiveGot, LoggedGot, Told, answered};
-ghost use Rattle.wasi_streams.specs.Input.{ReadReply, performed, taken, wanted, waits, ready_row, blocking_read_row, moved_by};
+ghost use Rattle.wasi_host.specs.HostLaws.{HasCause, LiveGot, LoggedGot, RefinesCall, answered};
+ghost use Rattle.wasi_streams.specs.Input.{ReadReply, performed, taken, wanted, waits, ready_spec, blocking_read_spec, moved_by};
 ghost use Rattle.wasi_streams.specs.Reading.{host_seen, HasRead, GivesAs, FollowsRead, ready_of};
 
 use crate::StreamError;
@@ -67,7 +67,7 @@ impl ReadState {
 
     /// Gives the first of the bytes that are there, at most so many.
     fn take(&mut self, size: usize) -> Result<Bytes, StreamError>
-        ensures row { GivesAs (taken self.old size) self.old result self.new }
+        ensures specified { GivesAs (taken self.old size) self.old result self.new }
     {
         match self {
             ReadState::Idle => {
@@ -125,13 +125,13 @@ fn read_at<H: Host>(
 ) -> Result<Result<Bytes, ErrorCode>, AllocError>
     requires live { contains (H.live host.old) file ≡ true }
     ensures live { H.live host.new ≡ H.live host.old }
-    ensures reads { IfOk result (HasRead H.told
-        (host_seen H.faults H.live H.lookups H.world host.old)
-        (host_seen H.faults H.live H.lookups H.world host.new)
+    ensures reads { IfOk result (HasRead H.modelled
+        (host_seen H.faults H.live H.lookups H.model host.old)
+        (host_seen H.faults H.live H.lookups H.model host.new)
         file position size) }
-    ensures wants { OnErr result ((host.new ≡ host.old) ⊎ ((reply : ReadReply) × HasRead H.told
-        (host_seen H.faults H.live H.lookups H.world host.old)
-        (host_seen H.faults H.live H.lookups H.world host.new)
+    ensures wants { OnErr result ((host.new ≡ host.old) ⊎ ((reply : ReadReply) × HasRead H.modelled
+        (host_seen H.faults H.live H.lookups H.model host.old)
+        (host_seen H.faults H.live H.lookups H.model host.new)
         file position size reply)) }
 {
     let mut buffer = vec![in alloc; 0; size.min(MAX_READ_SIZE_ALLOC)]?;
@@ -158,8 +158,8 @@ impl FileInputStream {
             (result_map_both (λ s. s.file) (λ e. e) result) (H.lookups host.new) }
         ensures position { IfOk result (λ s. s.position ≡ position) }
         ensures state { IfOk result (λ s. s.state ≡ ReadState.Idle) }
-        ensures told { IsTrue H.told → Told (H.live host.old) (H.live host.new) (H.world host.old) (H.world host.new)
-            (Dup ((H.world host.old).held file.now.file)) (λ s. (H.world host.new).held s.file) result }
+        ensures modelled { IsTrue H.modelled → RefinesCall (H.live host.old) (H.live host.new) (H.model host.old) (H.model host.new)
+            (Dup ((H.model host.old).held file.now.file)) (λ s. (H.model host.new).held s.file) result }
     {
         let file = host.dup(file.file)?;
         Ok(FileInputStream {
@@ -174,7 +174,7 @@ impl FileInputStream {
     /// any, is asked for. A code that a read was refused with is told once.
     pub fn read(&mut self, size: usize) -> Result<Bytes, StreamError>
         ensures file { self.new.file ≡ self.old.file }
-        ensures row { GivesAs (taken self.old.state size) self.old.state result self.new.state }
+        ensures specified { GivesAs (taken self.old.state size) self.old.state result self.new.state }
         ensures position { self.new.position ≡ self.old.position + moved_by result }
     {
         let bytes = self.state.take(size)?;
@@ -188,11 +188,11 @@ impl FileInputStream {
         ensures file { self.new.file ≡ self.old.file }
         ensures position { self.new.position ≡ self.old.position }
         ensures live { H.live host.new ≡ H.live host.old }
-        ensures row { FollowsRead (host.new ≡ host.old) (HasRead H.told
-            (host_seen H.faults H.live H.lookups H.world host.old)
-            (host_seen H.faults H.live H.lookups H.world host.new)
+        ensures specified { FollowsRead (host.new ≡ host.old) (HasRead H.modelled
+            (host_seen H.faults H.live H.lookups H.model host.old)
+            (host_seen H.faults H.live H.lookups H.model host.new)
             self.old.file self.old.position)
-            (waits self.old.state) (ready_row self.old.state) (ready_of result) self.new.state }
+            (waits self.old.state) (ready_spec self.old.state) (ready_of result) self.new.state }
     {
         let Some(size) = self.state.wanted(READY_SIZE) else {
             return Ok(());
@@ -214,11 +214,11 @@ impl FileInputStream {
         ensures file { self.new.file ≡ self.old.file }
         ensures position { self.new.position ≡ self.old.position + moved_by result }
         ensures live { H.live host.new ≡ H.live host.old }
-        ensures row { FollowsRead (host.new ≡ host.old) (HasRead H.told
-            (host_seen H.faults H.live H.lookups H.world host.old)
-            (host_seen H.faults H.live H.lookups H.world host.new)
+        ensures specified { FollowsRead (host.new ≡ host.old) (HasRead H.modelled
+            (host_seen H.faults H.live H.lookups H.model host.old)
+            (host_seen H.faults H.live H.lookups H.model host.new)
             self.old.file self.old.position)
-            self.old.state (blocking_read_row self.old.state size) result self.new.state }
+            self.old.state (blocking_read_spec self.old.state size) result self.new.state }
     {
         let Some(more) = self.state.wanted(size) else {
             return self.read(size);
@@ -254,7 +254,7 @@ impl FileInputStream {
         ensures faults { H.faults host.new ≡ H.faults host.old }
         ensures live { H.live host.new ≡ remove (H.live host.old) self.file }
         ensures logged { H.lookups host.new ≡ H.lookups host.old }
-        ensures told { IsTrue H.told → Told (H.live host.old) (H.live host.new) (H.world host.old) (H.world host.new)
+        ensures modelled { IsTrue H.modelled → RefinesCall (H.live host.old) (H.live host.new) (H.model host.old) (H.model host.new)
             Close (λ unit. unit) answered }
     {
         host.close(self.file);

@@ -3,8 +3,8 @@ ghost use Rattle.std.specs.Prelude.{◌≡◌, ◌<◌, ◌^◌, true, IsTrue, I
 ghost use Rattle.std.specs.Result.{result_map_both};
 ghost use Rattle.std.specs.FinSet.{contains, remove};
 ghost use Rattle.wasi_host.specs.HostCall.{Dup, Close};
-ghost use Rattle.wasi_host.specs.HostLaws.{HasCause, LiveGot, LoggedGot, Told, answered};
-ghost use Rattle.wasi_streams.specs.Output.{stands_after, write_made, write_row, flush_row, check_write_row, ready_write_row, blocking_write_row};
+ghost use Rattle.wasi_host.specs.HostLaws.{HasCause, LiveGot, LoggedGot, RefinesCall, answered};
+ghost use Rattle.wasi_streams.specs.Output.{stands_after, write_made, write_spec, flush_spec, check_write_spec, ready_write_spec, blocking_write_spec};
 ghost use Rattle.wasi_streams.specs.Reading.{host_seen, ready_of};
 ghost use Rattle.wasi_streams.specs.Writing.{behind, stopped, IsInside, Puts, WritesAll, FollowsWrite};
 
@@ -93,7 +93,7 @@ impl OutputState {
 
     /// Whether writing goes on: a code that a write was refused with is told once.
     fn tell(&mut self) -> Result<(), StreamError>
-        ensures row { (result, self.new) ≡ flush_row self.old }
+        ensures specified { (result, self.new) ≡ flush_spec self.old }
     {
         match self {
             OutputState::Ready => Ok(()),
@@ -135,8 +135,8 @@ fn put<H: Host>(
 ) -> Result<usize, HostError>
     requires live { contains (H.live host.old) file ≡ true }
     ensures live { H.live host.new ≡ H.live host.old }
-    ensures puts { Puts H.told file (host_seen H.faults H.live H.lookups H.world host.old)
-        (host_seen H.faults H.live H.lookups H.world host.new) mode piece.now result }
+    ensures puts { Puts H.modelled file (host_seen H.faults H.live H.lookups H.model host.old)
+        (host_seen H.faults H.live H.lookups H.model host.new) mode piece.now result }
 {
     match mode {
         FileOutputMode::Position(offset) => host.pwrite(file, piece.as_slice(), offset),
@@ -154,8 +154,8 @@ fn write_all<H: Host>(
 ) -> (FileOutputMode, OutputState)
     requires live { contains (H.live host.old) file ≡ true }
     ensures live { H.live host.new ≡ H.live host.old }
-    ensures writes { WritesAll H.told file (host_seen H.faults H.live H.lookups H.world host.old) mode piece
-        (host_seen H.faults H.live H.lookups H.world host.new) result.0 result.1 }
+    ensures writes { WritesAll H.modelled file (host_seen H.faults H.live H.lookups H.model host.old) mode piece
+        (host_seen H.faults H.live H.lookups H.model host.new) result.0 result.1 }
 {
     let mut at = mode;
     let mut rest = piece;
@@ -189,8 +189,8 @@ impl FileOutputStream {
             (result_map_both (λ s. s.file) (λ e. e) result) (H.lookups host.new) }
         ensures mode { IfOk result (λ s. s.mode ≡ FileOutputMode.Position position) }
         ensures state { IfOk result (λ s. s.state ≡ OutputState.Ready) }
-        ensures told { IsTrue H.told → Told (H.live host.old) (H.live host.new) (H.world host.old) (H.world host.new)
-            (Dup ((H.world host.old).held file.now.file)) (λ s. (H.world host.new).held s.file) result }
+        ensures modelled { IsTrue H.modelled → RefinesCall (H.live host.old) (H.live host.new) (H.model host.old) (H.model host.new)
+            (Dup ((H.model host.old).held file.now.file)) (λ s. (H.model host.new).held s.file) result }
     {
         FileOutputStream::over(host, file, FileOutputMode::Position(position))
     }
@@ -208,8 +208,8 @@ impl FileOutputStream {
             (result_map_both (λ s. s.file) (λ e. e) result) (H.lookups host.new) }
         ensures mode { IfOk result (λ s. s.mode ≡ FileOutputMode.Append) }
         ensures state { IfOk result (λ s. s.state ≡ OutputState.Ready) }
-        ensures told { IsTrue H.told → Told (H.live host.old) (H.live host.new) (H.world host.old) (H.world host.new)
-            (Dup ((H.world host.old).held file.now.file)) (λ s. (H.world host.new).held s.file) result }
+        ensures modelled { IsTrue H.modelled → RefinesCall (H.live host.old) (H.live host.new) (H.model host.old) (H.model host.new)
+            (Dup ((H.model host.old).held file.now.file)) (λ s. (H.model host.new).held s.file) result }
     {
         FileOutputStream::over(host, file, FileOutputMode::Append)
     }
@@ -227,8 +227,8 @@ impl FileOutputStream {
             (result_map_both (λ s. s.file) (λ e. e) result) (H.lookups host.new) }
         ensures mode { IfOk result (λ s. s.mode ≡ mode) }
         ensures state { IfOk result (λ s. s.state ≡ OutputState.Ready) }
-        ensures told { IsTrue H.told → Told (H.live host.old) (H.live host.new) (H.world host.old) (H.world host.new)
-            (Dup ((H.world host.old).held file.now.file)) (λ s. (H.world host.new).held s.file) result }
+        ensures modelled { IsTrue H.modelled → RefinesCall (H.live host.old) (H.live host.new) (H.model host.old) (H.model host.new)
+            (Dup ((H.model host.old).held file.now.file)) (λ s. (H.model host.new).held s.file) result }
     {
         let file = host.dup(file.file)?;
         Ok(FileOutputStream {
@@ -243,7 +243,7 @@ impl FileOutputStream {
     pub fn write(&mut self, buf: Bytes) -> Result<(), StreamError>
         ensures file { self.new.file ≡ self.old.file }
         ensures mode { self.new.mode ≡ self.old.mode }
-        ensures row { (result, self.new.state) ≡ write_row self.old.state buf }
+        ensures specified { (result, self.new.state) ≡ write_spec self.old.state buf }
     {
         match &self.state {
             OutputState::Ready => {
@@ -263,7 +263,7 @@ impl FileOutputStream {
     pub fn flush(&mut self) -> Result<(), StreamError>
         ensures file { self.new.file ≡ self.old.file }
         ensures mode { self.new.mode ≡ self.old.mode }
-        ensures row { (result, self.new.state) ≡ flush_row self.old.state }
+        ensures specified { (result, self.new.state) ≡ flush_spec self.old.state }
     {
         self.state.tell()
     }
@@ -273,9 +273,9 @@ impl FileOutputStream {
         requires live { contains (H.live host.old) self.old.file ≡ true }
         ensures file { self.new.file ≡ self.old.file }
         ensures live { H.live host.new ≡ H.live host.old }
-        ensures row { FollowsWrite H.told self.old.file (host_seen H.faults H.live H.lookups H.world host.old) self.old.mode
-            (ready_write_row self.old.state) (ready_of result)
-            (host_seen H.faults H.live H.lookups H.world host.new) self.new.mode self.new.state }
+        ensures specified { FollowsWrite H.modelled self.old.file (host_seen H.faults H.live H.lookups H.model host.old) self.old.mode
+            (ready_write_spec self.old.state) (ready_of result)
+            (host_seen H.faults H.live H.lookups H.model host.new) self.new.mode self.new.state }
     {
         match mem::replace(&mut self.state, OutputState::Ready) {
             OutputState::Waiting(piece) => {
@@ -302,9 +302,9 @@ impl FileOutputStream {
         requires live { contains (H.live host.old) self.old.file ≡ true }
         ensures file { self.new.file ≡ self.old.file }
         ensures live { H.live host.new ≡ H.live host.old }
-        ensures row { FollowsWrite H.told self.old.file (host_seen H.faults H.live H.lookups H.world host.old) self.old.mode
-            (blocking_write_row self.old.state buf) result
-            (host_seen H.faults H.live H.lookups H.world host.new) self.new.mode self.new.state }
+        ensures specified { FollowsWrite H.modelled self.old.file (host_seen H.faults H.live H.lookups H.model host.old) self.old.mode
+            (blocking_write_spec self.old.state buf) result
+            (host_seen H.faults H.live H.lookups H.model host.new) self.new.mode self.new.state }
     {
         self.ready(host)?;
         self.state.tell()?;
@@ -317,7 +317,7 @@ impl FileOutputStream {
     pub fn check_write(&mut self) -> Result<usize, StreamError>
         ensures file { self.new.file ≡ self.old.file }
         ensures mode { self.new.mode ≡ self.old.mode }
-        ensures row { (result, self.new.state) ≡ check_write_row self.old.state }
+        ensures specified { (result, self.new.state) ≡ check_write_spec self.old.state }
     {
         self.state.tell()?;
         match &self.state {
@@ -341,7 +341,7 @@ impl FileOutputStream {
         ensures faults { H.faults host.new ≡ H.faults host.old }
         ensures live { H.live host.new ≡ remove (H.live host.old) self.file }
         ensures logged { H.lookups host.new ≡ H.lookups host.old }
-        ensures told { IsTrue H.told → Told (H.live host.old) (H.live host.new) (H.world host.old) (H.world host.new)
+        ensures modelled { IsTrue H.modelled → RefinesCall (H.live host.old) (H.live host.new) (H.model host.old) (H.model host.new)
             Close (λ unit. unit) answered }
     {
         host.close(self.file);

@@ -7,8 +7,8 @@ use Rattle.std.proofs.lemmas.List.Sums.{sum_by-cons, sum_by-append}
 use Rattle.wasi_host.proofs.EntryLemmas.{times, once, times-cons}
 use Rattle.wasi_tree.specs.declared.node.NewEntry.{NewEntry}
 use Rattle.wasi_tree.specs.declared.node.NewNode.{NewNode}
-use Rattle.wasi_tree.specs.Given.{Given, pair_of, given, given_content, given_entries, entry_count}
-use Rattle.wasi_tree.specs.GivenTests.{numbers_from}
+use Rattle.wasi_tree.specs.NodeData.{NodeData, pair_of, node_data, content_data, data_entries, entry_count}
+use Rattle.wasi_tree.specs.NodeDataTests.{numbers_from}
 use Rattle.wasi_tree.specs.WellFormed.{name_counts}
 use Rattle.wasi_tree.specs.FitTests.{entry_numbers, content_numbers, all_numbers, AreCounted}
 
@@ -21,11 +21,11 @@ times-numbers n (e ∷ entries) =
     ∙ ap (λ k. cond (nat_eq e.1 n) 1 0 + k) (times-numbers n entries)
     ∙ sym (sum_by-cons (λ k. cond (nat_eq k n) 1 0) e.1 (map (λ f. f.1) entries))
 
-entry_count-times : (n : ℕ) (nodes : List Given) → entry_count n nodes ≡ times n (all_numbers nodes)
+entry_count-times : (n : ℕ) (nodes : List NodeData) → entry_count n nodes ≡ times n (all_numbers nodes)
 entry_count-times n [] = refl
 entry_count-times n (g ∷ gs) =
-    sum_by-cons (λ (h : Given). count_by (λ e. nat_eq e.1 n) (given_entries h.content)) g gs
-    ∙ ap (λ k. k + entry_count n gs) (times-numbers n (given_entries g.content))
+    sum_by-cons (λ (h : NodeData). count_by (λ e. nat_eq e.1 n) (data_entries h.content)) g gs
+    ∙ ap (λ k. k + entry_count n gs) (times-numbers n (data_entries g.content))
     ∙ ap (λ k. times n (content_numbers g.content) + k) (entry_count-times n gs)
     ∙ sym (sum_by-append (λ k. cond (nat_eq k n) 1 0) (content_numbers g.content) (all_numbers gs))
 
@@ -35,16 +35,16 @@ pub entry_numbers-take : (entries : List NewEntry) (i : ℕ) (e : NewEntry) → 
 entry_numbers-take entries i e h =
     rw (take_more entries i e h, map_push pair_of (take i entries) (slice_index_or entries i e), map_push {Y = ℕ} (λ (p : List ℕ × ℕ). p.1) (map pair_of (take i entries)) (pair_of (slice_index_or entries i e))) refl
 
-all_numbers-push : (gs : List Given) (g : Given) → all_numbers (gs ++ g ∷ []) ≡ all_numbers gs ++ content_numbers g.content
+all_numbers-push : (gs : List NodeData) (g : NodeData) → all_numbers (gs ++ g ∷ []) ≡ all_numbers gs ++ content_numbers g.content
 all_numbers-push [] g = append-nil (content_numbers g.content)
 all_numbers-push (h ∷ gs) g =
     ap (λ ns. content_numbers h.content ++ ns) (all_numbers-push gs g)
     ∙ sym (append_assoc (content_numbers h.content) (all_numbers gs) (content_numbers g.content))
 
 pub all_numbers-take : (nodes : List NewNode) (i : ℕ) (d : NewNode) → i < length nodes
-    → all_numbers (map given (take (i + 1) nodes)) ≡ all_numbers (map given (take i nodes)) ++ content_numbers (given_content (slice_index_or nodes i d).content)
+    → all_numbers (map node_data (take (i + 1) nodes)) ≡ all_numbers (map node_data (take i nodes)) ++ content_numbers (content_data (slice_index_or nodes i d).content)
 all_numbers-take nodes i d h =
-    rw (take_more nodes i d h, map_push given (take i nodes) (slice_index_or nodes i d)) (all_numbers-push (map given (take i nodes)) (given (slice_index_or nodes i d)))
+    rw (take_more nodes i d h, map_push node_data (take i nodes) (slice_index_or nodes i d)) (all_numbers-push (map node_data (take i nodes)) (node_data (slice_index_or nodes i d)))
 
 pub counted_none : (counts : List ℕ) → AreCounted [] counts counts
 counted_none counts = record { len = refl; each = λ n h. omega arith }
@@ -88,7 +88,7 @@ length-zeros : (n : ℕ) → length (zeros n) ≡ n
 length-zeros n = length-replicate n (zero)
 
 -- the counts of all entries
-pub counted_all : (nodes : List Given) (counts : List ℕ)
+pub counted_all : (nodes : List NodeData) (counts : List ℕ)
     → AreCounted (all_numbers nodes) (zeros (length nodes)) counts → counts ≡ name_counts nodes
 counted_all nodes counts are =
     let len : length counts ≡ length nodes = are.len ∙ length-zeros (length nodes) in
@@ -101,23 +101,23 @@ counted_all nodes counts are =
 
 -- one node more
 pub counted_node : {old counts new : List ℕ} (nodes : List NewNode) (i : ℕ) (node : NewNode) (part : List NewEntry)
-    → AreCounted (all_numbers (map given (take i nodes))) old counts → i < length nodes → node ≡ slice_index_or nodes i node
-    → map pair_of part ≡ given_entries (given_content node.content) → AreCounted (entry_numbers part) counts new
-    → AreCounted (all_numbers (map given (take (i + 1) nodes))) old new
+    → AreCounted (all_numbers (map node_data (take i nodes))) old counts → i < length nodes → node ≡ slice_index_or nodes i node
+    → map pair_of part ≡ data_entries (content_data node.content) → AreCounted (entry_numbers part) counts new
+    → AreCounted (all_numbers (map node_data (take (i + 1) nodes))) old new
 counted_node {old} {counts} {new} nodes i node part are h at entries more =
-    let before : List ℕ = all_numbers (map given (take i nodes)) in
-    let taken : all_numbers (map given (take (i + 1) nodes)) ≡ before ++ entry_numbers part =
-    all_numbers-take nodes i node h ∙ ap (λ (m : NewNode). before ++ content_numbers (given_content m.content)) (sym at)
+    let before : List ℕ = all_numbers (map node_data (take i nodes)) in
+    let taken : all_numbers (map node_data (take (i + 1) nodes)) ≡ before ++ entry_numbers part =
+    all_numbers-take nodes i node h ∙ ap (λ (m : NewNode). before ++ content_numbers (content_data m.content)) (sym at)
     ∙ ap (λ (es : List (List ℕ × ℕ)). before ++ map (λ e. e.1) es) (sym entries) in
     subst (λ ns. AreCounted ns old new) (sym taken) (counted_then before (entry_numbers part) old counts new are more)
 
 pub counted_end : {start counts : List ℕ} (nodes : List NewNode) (i : ℕ) → start ≡ zeros (length nodes)
-    → length nodes ≤ i → AreCounted (all_numbers (map given (take i nodes))) start counts
-    → counts ≡ name_counts (map given nodes)
+    → length nodes ≤ i → AreCounted (all_numbers (map node_data (take i nodes))) start counts
+    → counts ≡ name_counts (map node_data nodes)
 counted_end {start} {counts} nodes i is past are =
-    let begun : start ≡ zeros (length (map given nodes)) = is ∙ ap zeros (sym (length-map nodes given)) in
-    let all : AreCounted (all_numbers (map given nodes)) start counts = subst (λ ns. AreCounted (all_numbers (map given ns)) start counts) (take_all i nodes past) are in
-    counted_all (map given nodes) counts (subst (λ xs. AreCounted (all_numbers (map given nodes)) xs counts) begun all)
+    let begun : start ≡ zeros (length (map node_data nodes)) = is ∙ ap zeros (sym (length-map nodes node_data)) in
+    let all : AreCounted (all_numbers (map node_data nodes)) start counts = subst (λ ns. AreCounted (all_numbers (map node_data ns)) start counts) (take_all i nodes past) are in
+    counted_all (map node_data nodes) counts (subst (λ xs. AreCounted (all_numbers (map node_data nodes)) xs counts) begun all)
 
 pub ruleset count_rules = (entry_numbers-take, counted_none, counted_then, counted_out, counted_one)
 

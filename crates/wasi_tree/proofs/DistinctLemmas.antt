@@ -12,8 +12,8 @@ use Rattle.std.proofs.lemmas.List.Folds.{list_any-append}
 use Rattle.std.proofs.lemmas.Map.Text.{is_eq-slice_cmp}
 use denote.Ref.{Bor}
 use Rattle.wasi_tree.specs.declared.node.NewEntry.{NewEntry}
-use Rattle.wasi_tree.specs.Given.{pair_of}
-use Rattle.wasi_tree.specs.GivenTests.{are_distinct}
+use Rattle.wasi_tree.specs.NodeData.{pair_of}
+use Rattle.wasi_tree.specs.NodeDataTests.{are_distinct}
 
 -- the names of entries
 abbrev pub names : List NewEntry → List (List ℕ)

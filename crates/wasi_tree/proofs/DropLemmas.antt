@@ -4,7 +4,7 @@ use Rattle.std.proofs.lemmas.Bool.{ne_eqb, eqb-true}
 use Rattle.std.specs.FinMap.{get, empty_of_len}
 use Rattle.wasi_host.specs.Tree.{Tree, Content, File, Directory, Link, node_at, child, names_of, is_directory}
 use Rattle.wasi_host.specs.HostCall.{UnlinkAt, RemoveDirAt}
-use Rattle.wasi_host.specs.Refusal.{refusal, first_rule, dropping_rows, unlinking_row, removing_rows, is_bare}
+use Rattle.wasi_host.specs.Refusal.{refusal, first_rule, dropping_rules, unlinking_rule, removing_rules, is_bare}
 use Rattle.wasi_host.specs.Step.{without_entry, entry_changed, one_name_less, made_gone, name_lost, name_dropped, dropped_step, unlink_step, remove_step}
 use Rattle.wasi_host.specs.declared.errors.ErrorCode.{ErrorCode}
 use Rattle.wasi_host.specs.declared.errors.ErrorCode.TheVariants as codes
@@ -15,20 +15,20 @@ use Rattle.wasi_tree.proofs.StoreLemmas.{child_is}
 -- ---- the rows of a name that is to be dropped
 
 pub unlink_refused : (t : Tree) (d : ℕ) (name : List ℕ) {code : ErrorCode}
-    → first_rule (dropping_rows t d name codes.IsDirectory) ≡ Some code → refusal t (UnlinkAt d name) ≡ Some code
+    → first_rule (dropping_rules t d name codes.IsDirectory) ≡ Some code → refusal t (UnlinkAt d name) ≡ Some code
 unfolding refusal
 unlink_refused t d name is =
-    refused_before (dropping_rows t d name codes.IsDirectory) (unlinking_row t (child t d name)) is
+    refused_before (dropping_rules t d name codes.IsDirectory) (unlinking_rule t (child t d name)) is
 
 pub remove_refused : (t : Tree) (d : ℕ) (name : List ℕ) {code : ErrorCode}
-    → first_rule (dropping_rows t d name codes.Invalid) ≡ Some code → refusal t (RemoveDirAt d name) ≡ Some code
+    → first_rule (dropping_rules t d name codes.Invalid) ≡ Some code → refusal t (RemoveDirAt d name) ≡ Some code
 unfolding refusal
 remove_refused t d name is =
-    refused_before (dropping_rows t d name codes.Invalid) (removing_rows t (child t d name)) is
+    refused_before (dropping_rules t d name codes.Invalid) (removing_rules t (child t d name)) is
 
 -- none of them holds, and the name holds a node
 pub record MayDrop (t : Tree) (d : ℕ) (name : List ℕ) (dot : ErrorCode) (n : ℕ) : Type 0 where
-  pub free : first_rule (dropping_rows t d name dot) ≡ None
+  pub free : first_rule (dropping_rules t d name dot) ≡ None
   pub found : child t d name ≡ Some n
 
 module _ {t : Tree} {d n : ℕ} {name : List ℕ} {dot : ErrorCode} (may : MayDrop t d name dot n) where
@@ -60,8 +60,8 @@ pub unlink_by : {t : Tree} {d n : ℕ} {name : List ℕ} (directory : Bool) → 
     → refusal t (UnlinkAt d name) ≡ first_rule ((directory, codes.IsDirectory) ∷ [])
 unfolding refusal
 unlink_by {t} {d} {n} {name} directory may is =
-    left_behind (dropping_rows t d name codes.IsDirectory) (unlinking_row t (child t d name)) may.free
-    ∙ ap (λ found. first_rule (unlinking_row t found)) may.found
+    left_behind (dropping_rules t d name codes.IsDirectory) (unlinking_rule t (child t d name)) may.free
+    ∙ ap (λ found. first_rule (unlinking_rule t found)) may.found
     ∙ ap (λ b. first_rule ((b, codes.IsDirectory) ∷ [])) is
 
 pub remove_by : {t : Tree} {d n : ℕ} {name : List ℕ} (directory bare : Bool) → MayDrop t d name codes.Invalid n
@@ -70,8 +70,8 @@ pub remove_by : {t : Tree} {d n : ℕ} {name : List ℕ} (directory bare : Bool)
     ≡ first_rule ((not directory, codes.NotDirectory) ∷ (not bare, codes.NotEmpty) ∷ [])
 unfolding refusal
 remove_by {t} {d} {n} {name} directory bare may is empty =
-    left_behind (dropping_rows t d name codes.Invalid) (removing_rows t (child t d name)) may.free
-    ∙ ap (λ found. first_rule (removing_rows t found)) may.found
+    left_behind (dropping_rules t d name codes.Invalid) (removing_rules t (child t d name)) may.free
+    ∙ ap (λ found. first_rule (removing_rules t found)) may.found
     ∙ (λ i. first_rule ((not (is i), codes.NotDirectory) ∷ (not (empty i), codes.NotEmpty) ∷ []))
 
 lost_file : (content : Content) → is_directory content ≡ false → name_lost content ≡ one_name_less content

@@ -16,7 +16,7 @@ use Rattle.wasi_tree.specs.Sound.{NodesStay}
 use Rattle.wasi_tree.specs.StoredTree.{stored_tree, IsStored}
 use Rattle.wasi_tree.specs.declared.inode.Inode.{Inode}
 use Rattle.wasi_tree.proofs.MoveLemmas.{moved_as, names_apart}
-use Rattle.wasi_tree.proofs.RowLemmas.{IsIn, names_here, tree_named, tree_unnamed, stored_named, stored_unnamed}
+use Rattle.wasi_tree.proofs.InodeLemmas.{IsIn, names_here, tree_named, tree_unnamed, stored_named, stored_unnamed}
 use Rattle.wasi_tree.proofs.SoundLemmas.{stays_changed, no_file}
 
 -- the tree with the new name, and without the old one
@@ -25,9 +25,9 @@ exchanged t old old_name new new_name n =
     content_changed (content_changed t new (with_entry new_name n)) old (without_entry old_name)
 
 -- an exchange in the tree that the rows and names stand for
-pub record Exchanges (rows : List Inode) (m : AllNames) (limits : Limits) (worked : Nodes) (t : Tree) (old : ℕ)
+pub record Exchanges (inodes : List Inode) (m : AllNames) (limits : Limits) (worked : Nodes) (t : Tree) (old : ℕ)
     (old_name : List ℕ) (new : ℕ) (new_name : List ℕ) (n : ℕ) : Type 0 where
-  pub stands : stored_tree rows m limits worked ≡ t
+  pub stands : stored_tree inodes m limits worked ≡ t
   pub is : IsExchange t old old_name new new_name n
 
 -- where the new name is put, the directory of the old one is one still
@@ -38,8 +38,8 @@ put_directory {t} {old} {new} {n} {new_name = new_name} is =
     (directory_within t new is.to) (λ x. is_directory x.content) (sym is.to) old
     ∙ is.from
 
-module _ {rows : List Inode} {m : AllNames} {limits : Limits} {worked : Nodes} {t : Tree} {old new n : ℕ}
-    {old_name new_name : List ℕ} (are : Exchanges rows m limits worked t old old_name new new_name n) where
+module _ {inodes : List Inode} {m : AllNames} {limits : Limits} {worked : Nodes} {t : Tree} {old new n : ℕ}
+    {old_name new_name : List ℕ} (are : Exchanges inodes m limits worked t old old_name new new_name n) where
   -- the names hold the node under the old name
   pub held_there : maps.get m (old, old_name) ≡ Some n
   held_there =
@@ -50,7 +50,7 @@ module _ {rows : List Inode} {m : AllNames} {limits : Limits} {worked : Nodes} {
   keys_apart : (let a : Key = (old, old_name) in let b : Key = (new, new_name) in a ≡ b → ⊥)
   keys_apart same = are.is.names_apart (ap (λ (k : Key). k.0) same) (ap (λ (k : Key). k.1) same)
 
-  half : IsIn rows (maps.insert m (new, new_name) n) limits (insert worked new)
+  half : IsIn inodes (maps.insert m (new, new_name) n) limits (insert worked new)
       (content_changed t new (with_entry new_name n)) old
   half = record {
     stands = tree_named (record { stands = are.stands; directory = are.is.to }) new_name n refl refl;
@@ -59,11 +59,11 @@ module _ {rows : List Inode} {m : AllNames} {limits : Limits} {worked : Nodes} {
 
   module _ {names : AllNames} {now : Nodes} (renamed : names ≡ maps.insert (maps.remove m (old, old_name)) (new, new_name) n)
       (marked : now ≡ insert (insert worked new) old) where
-    pub tree_exchanged : stored_tree rows names limits now ≡ exchanged t old old_name new new_name n
+    pub tree_exchanged : stored_tree inodes names limits now ≡ exchanged t old old_name new new_name n
     tree_exchanged = tree_unnamed half old_name (renamed ∙ insert-remove m _ _ n keys_apart) marked
 
-    pub stored_exchanged : {marks count : ℕ} → count ≡ marks → IsStored rows m limits worked marks
-        → IsStored rows names limits now count
+    pub stored_exchanged : {marks count : ℕ} → count ≡ marks → IsStored inodes m limits worked marks
+        → IsStored inodes names limits now count
     stored_exchanged same stored =
         stored_unnamed half old_name (renamed ∙ insert-remove m _ _ n keys_apart) marked same
         (stored_named (record { stands = are.stands; directory = are.is.to }) new_name n are.is.good are.is.within refl refl refl

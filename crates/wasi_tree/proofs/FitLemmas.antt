@@ -10,7 +10,7 @@ use Rattle.wasi_paths.specs.Text.{has_nul, is_entry_name}
 use Rattle.wasi_host.specs.ValidTree.{are_bytes}
 use Rattle.wasi_host.specs.Numbers.{longest_link}
 use Rattle.wasi_tree.specs.declared.node.NewEntry.{NewEntry}
-use Rattle.wasi_tree.specs.Given.{pair_of}
+use Rattle.wasi_tree.specs.NodeData.{pair_of}
 use Rattle.wasi_tree.specs.WellFormed.{is_fit_text, is_fit_entry}
 
 -- what the types give: a text is UTF-8, and a byte is below 256

@@ -10,7 +10,7 @@ use Rattle.std.proofs.lemmas.List.Sums.{sum_by-set}
 use Rattle.std.proofs.lemmas.Option.{slice_get_within, slice_get_read, slice_get-map}
 use Rattle.wasi_tree.specs.declared.node.NewEntry.{NewEntry}
 use Rattle.wasi_tree.specs.declared.node.NewNode.{NewNode}
-use Rattle.wasi_tree.specs.Given.{Given, pair_of, given, given_content, given_entries}
+use Rattle.wasi_tree.specs.NodeData.{NodeData, pair_of, node_data, content_data, data_entries}
 use Rattle.wasi_tree.specs.WellFormed.{IsFound, at_zero, by_entry, entries_at, entries_held}
 use Rattle.wasi_tree.specs.FitTests.{entry_numbers, IsMarked, AreMarked, TellFound}
 use Rattle.wasi_tree.proofs.CountLemmas.{entry_numbers-take}
@@ -90,19 +90,19 @@ marked_within (b ∷ marks) zero is = omega arith
 marked_within (b ∷ marks) (suc n) is = let within = marked_within marks n is in omega arith
 
 -- each number that the entries of a node give has its mark
-abbrev pub IsDone : List Given → List Bool → ℕ → Type 0
+abbrev pub IsDone : List NodeData → List Bool → ℕ → Type 0
 IsDone nodes marks d =
     (entry : List ℕ × ℕ) → Contains (entries_at nodes d) entry → entry.1 < length nodes → IsMarked marks entry.1
 
 -- marks are of what is found; and where a number isn't on the work list any more, what its entries give has marks
-pub record IsSearch (nodes : List Given) (marks : List Bool) (work : List ℕ) : Type 0 where
+pub record IsSearch (nodes : List NodeData) (marks : List Bool) (work : List ℕ) : Type 0 where
   pub len : length marks ≡ length nodes
   pub root : 0 < length nodes → IsMarked marks 0
   pub sound : (n : ℕ) → IsMarked marks n → IsFound nodes n
   pub waits : (n : ℕ) → Contains work n → IsMarked marks n
   pub closed : (d : ℕ) → IsMarked marks d → Contains work d ⊎ IsDone nodes marks d
 
-pub search_first : (nodes : List Given) (marks marks' : List Bool) (work' : List ℕ) → length marks ≡ length nodes
+pub search_first : (nodes : List NodeData) (marks marks' : List Bool) (work' : List ℕ) → length marks ≡ length nodes
     → ((n : ℕ) → IsMarked marks n → ⊥) → AreMarked (0 ∷ []) marks [] marks' work' → IsSearch nodes marks' work'
 search_first nodes marks marks' work' len none are = record {
   len = are.len ∙ len;
@@ -129,7 +129,7 @@ number_of (e ∷ entries) entry (suc k, h, is) =
     let later = number_of entries entry (k, omega arith, is) in
     (suc later.0, omega (arith, later.1), later.2)
 
-pub search_next : {nodes : List Given} {marks marks' : List Bool} {work rest work' : List ℕ} (d : ℕ)
+pub search_next : {nodes : List NodeData} {marks marks' : List Bool} {work rest work' : List ℕ} (d : ℕ)
     → IsSearch nodes marks work → work ≡ rest ++ d ∷ []
     → AreMarked (map (λ e. e.1) (entries_at nodes d)) marks rest marks' work' → IsSearch nodes marks' work'
 search_next {nodes} {marks} {marks'} {work} {rest} {work'} d is popped are =
@@ -158,19 +158,19 @@ search_next {nodes} {marks} {marks'} {work} {rest} {work'} d is popped are =
     }
 
 -- only a node in range has entries
-pub has_entries : (nodes : List Given) (d : ℕ) (entry : List ℕ × ℕ) → Contains (entries_at nodes d) entry
+pub has_entries : (nodes : List NodeData) (d : ℕ) (entry : List ℕ × ℕ) → Contains (entries_at nodes d) entry
     → d < length nodes
 has_entries nodes d entry c =
     by (slice_get nodes d) refl c
   where
-    by : (o : Option Given) → slice_get nodes d ≡ o → Contains (entries_held o) entry → d < length nodes
+    by : (o : Option NodeData) → slice_get nodes d ≡ o → Contains (entries_held o) entry → d < length nodes
     by None is c = absurd (omega (arith, c.1))
     by (Some g) is c = slice_get_within nodes d g is
 
-pub has_numbers : (nodes : List Given) (d n : ℕ) → Contains (map (λ e. e.1) (entries_at nodes d)) n → d < length nodes
+pub has_numbers : (nodes : List NodeData) (d n : ℕ) → Contains (map (λ e. e.1) (entries_at nodes d)) n → d < length nodes
 has_numbers nodes d n c = let e = entry_of (entries_at nodes d) n c in has_entries nodes d e.0 e.1
 
-marked_found : (nodes : List Given) (marks : List Bool) → IsSearch nodes marks [] → (n : ℕ) → IsFound nodes n
+marked_found : (nodes : List NodeData) (marks : List Bool) → IsSearch nodes marks [] → (n : ℕ) → IsFound nodes n
     → n < length nodes → IsMarked marks n
 marked_found nodes marks is n at_zero within = is.root within
 marked_found nodes marks is n (by_entry d entry found at) within =
@@ -178,7 +178,7 @@ marked_found nodes marks is n (by_entry d entry found at) within =
     ⊎_elim (λ c. absurd (omega (arith, c.1))) (λ done. done entry at within) (is.closed d before)
 
 -- with nothing on the work list
-pub search_done : (nodes : List Given) (marks : List Bool) → IsSearch nodes marks [] → TellFound nodes marks
+pub search_done : (nodes : List NodeData) (marks : List Bool) → IsSearch nodes marks [] → TellFound nodes marks
 search_done nodes marks is = record {
   len = is.len;
   each = λ n h. (λ m. is.sound n m, λ found. marked_found nodes marks is n found h);
@@ -191,39 +191,39 @@ unmarked_at count n is =
     true≢false (sym is ∙ get_or-replicate count n false false (omega (arith, within, length-replicate count false)))
 
 pub search_begins : {start marks : List Bool} {none work : List ℕ} (nodes : List NewNode) → start ≡ replicate (length nodes) false
-    → none ≡ [] → AreMarked (0 ∷ []) start none marks work → IsSearch (map given nodes) marks work
+    → none ≡ [] → AreMarked (0 ∷ []) start none marks work → IsSearch (map node_data nodes) marks work
 search_begins {start} {marks} {none} {work} nodes is empty are =
-    search_first (map given nodes) (replicate (length nodes) false) marks work (length-replicate (length nodes) false ∙ sym (length-map nodes given)) (unmarked_at (length nodes))
+    search_first (map node_data nodes) (replicate (length nodes) false) marks work (length-replicate (length nodes) false ∙ sym (length-map nodes node_data)) (unmarked_at (length nodes))
     (subst (λ w. AreMarked (0 ∷ []) (replicate (length nodes) false) w marks work) empty (subst (λ m. AreMarked (0 ∷ []) m none marks work) is are))
 
 -- a node by its place
-pub given_at : (nodes : List NewNode) (d : ℕ) (node : NewNode) → d < length nodes → node ≡ slice_index_or nodes d node
-    → slice_get (map given nodes) d ≡ Some (given node)
-given_at nodes d node within is = slice_get-map given nodes d ∙ ap (option_map given) (slice_get_read nodes (length nodes) d node refl within is)
+pub node_data_at : (nodes : List NewNode) (d : ℕ) (node : NewNode) → d < length nodes → node ≡ slice_index_or nodes d node
+    → slice_get (map node_data nodes) d ≡ Some (node_data node)
+node_data_at nodes d node within is = slice_get-map node_data nodes d ∙ ap (option_map node_data) (slice_get_read nodes (length nodes) d node refl within is)
 
 pub entries_are : (nodes : List NewNode) (d : ℕ) (node : NewNode) → d < length nodes → node ≡ slice_index_or nodes d node
-    → given_entries (given_content node.content) ≡ entries_at (map given nodes) d
-entries_are nodes d node within is = sym (ap entries_held (given_at nodes d node within is))
+    → data_entries (content_data node.content) ≡ entries_at (map node_data nodes) d
+entries_are nodes d node within is = sym (ap entries_held (node_data_at nodes d node within is))
 
 pub search_goes : {marks marks' : List Bool} {work rest work' : List ℕ} (nodes : List NewNode) (d : ℕ) (part : List NewEntry)
-    → IsSearch (map given nodes) marks work → work ≡ rest ++ d ∷ []
-    → map pair_of part ≡ entries_at (map given nodes) d
-    → AreMarked (entry_numbers part) marks rest marks' work' → IsSearch (map given nodes) marks' work'
+    → IsSearch (map node_data nodes) marks work → work ≡ rest ++ d ∷ []
+    → map pair_of part ≡ entries_at (map node_data nodes) d
+    → AreMarked (entry_numbers part) marks rest marks' work' → IsSearch (map node_data nodes) marks' work'
 search_goes {marks} {marks'} {work} {rest} {work'} nodes d part is popped entries are =
-    let same : entry_numbers part ≡ map (λ e. e.1) (entries_at (map given nodes) d) =
+    let same : entry_numbers part ≡ map (λ e. e.1) (entries_at (map node_data nodes) d) =
     ap (λ (es : List (List ℕ × ℕ)). map (λ e. e.1) es) entries in
     search_next d is popped (subst (λ ns. AreMarked ns marks rest marks' work') same are)
 
 -- a number on the work list is a node's
 pub search_within : {marks : List Bool} {work : List ℕ} (nodes : List NewNode) (rest : List ℕ) (d : ℕ)
-    → IsSearch (map given nodes) marks work → work ≡ rest ++ d ∷ [] → d < length nodes
+    → IsSearch (map node_data nodes) marks work → work ≡ rest ++ d ∷ [] → d < length nodes
 search_within {marks} {work} nodes rest d is popped =
     let here : IsMarked marks d = is.waits d (subst (λ w. Contains w d) (sym popped) (Contains-push rest d)) in
-    omega (arith, marked_within marks d here, is.len, length-map nodes given)
+    omega (arith, marked_within marks d here, is.len, length-map nodes node_data)
 
-pub search_ends : {marks : List Bool} (nodes : List NewNode) (work : List ℕ) → IsSearch (map given nodes) marks work
-    → length work ≡ 0 → TellFound (map given nodes) marks
-search_ends {marks} nodes [] is none = search_done (map given nodes) marks is
+pub search_ends : {marks : List Bool} (nodes : List NewNode) (work : List ℕ) → IsSearch (map node_data nodes) marks work
+    → length work ≡ 0 → TellFound (map node_data nodes) marks
+search_ends {marks} nodes [] is none = search_done (map node_data nodes) marks is
 search_ends {marks} nodes (n ∷ work) is none = absurd (omega (arith, none))
 
 -- one entry more

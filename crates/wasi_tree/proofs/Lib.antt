@@ -3,7 +3,7 @@ pub mod RisingLemmas
 pub mod FitLemmas
 pub mod CountLemmas
 pub mod FoundLemmas
-pub mod GivenNames
+pub mod NodeDataNames
 pub mod FitDecides
 pub mod FitValid
 pub mod ValidFit
@@ -15,7 +15,7 @@ pub mod NamedLemmas
 pub mod NodeLemmas
 pub mod PutLemmas
 pub mod SoundLemmas
-pub mod RowLemmas
+pub mod InodeLemmas
 pub mod StoreLemmas
 pub mod DropLemmas
 pub mod LinkLemmas

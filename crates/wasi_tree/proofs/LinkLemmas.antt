@@ -8,25 +8,25 @@ use Rattle.std.specs.Prelude.{IsTrue}
 use Rattle.wasi_paths.specs.Text.{is_name_text}
 use Rattle.wasi_host.specs.Tree.{Tree, Nodes, node_at, next_of, child, is_directory, links_of}
 use Rattle.wasi_host.specs.HostCall.{LinkAt}
-use Rattle.wasi_host.specs.Refusal.{refusal, first_rule, both_rows, entry_rows, links_rows, linking_rows}
+use Rattle.wasi_host.specs.Refusal.{refusal, first_rule, both_rules, adding_rules, links_rules, linking_rules}
 use Rattle.wasi_host.specs.Answer.{unless}
 use Rattle.wasi_host.specs.Step.{found_under, with_nodes, name_added, added_step, link_step}
 use Rattle.wasi_host.specs.declared.errors.ErrorCode.{ErrorCode}
 use Rattle.wasi_host.proofs.Refusals.{refused_before}
 use Rattle.wasi_host.proofs.ValidSteps.{CanAdd, can_add}
 use Rattle.wasi_tree.specs.Move.{MayGain}
-use Rattle.wasi_tree.specs.TouchedTree.{Touched, AnsweredByTable}
+use Rattle.wasi_tree.specs.TouchedTree.{Touched, AnsweredByRules}
 use Rattle.wasi_tree.proofs.GoodNames.{added_good}
 
 -- ---- the rows
 
 pub names_refused : (t : Tree) (old : ℕ) (old_name : List ℕ) (new : ℕ) (new_name : List ℕ) {code : ErrorCode}
-    → first_rule (both_rows t old old_name new new_name) ≡ Some code
+    → first_rule (both_rules t old old_name new new_name) ≡ Some code
     → refusal t (LinkAt old old_name new new_name) ≡ Some code
 unfolding refusal
 names_refused t old old_name new new_name refused =
-    refused_before (both_rows t old old_name new new_name)
-    (linking_rows t new (child t old old_name) (child t new new_name)) refused
+    refused_before (both_rules t old old_name new new_name)
+    (linking_rules t new (child t old old_name) (child t new new_name)) refused
 
 -- nothing, where it isn't something
 pub none_there : {A : Type 0} (found : Option A) → is_some found ≡ false → found ≡ None
@@ -35,13 +35,13 @@ none_there (Some x) none = absurd (cc)
 
 -- the rows for the names don't refuse, the old name is there, and the new one isn't
 pub record AreNamed (t : Tree) (old : ℕ) (old_name : List ℕ) (new : ℕ) (new_name : List ℕ) (n : ℕ) : Type 0 where
-  pub named : first_rule (both_rows t old old_name new new_name) ≡ None
+  pub named : first_rule (both_rules t old old_name new new_name) ≡ None
   pub found : child t old old_name ≡ Some n
   pub missing : child t new new_name ≡ None
 
 module _ {t : Tree} {old new n : ℕ} {old_name new_name : List ℕ} {code : ErrorCode}
     (are : AreNamed t old old_name new new_name n) where
-  pub entry_refused : first_rule (entry_rows t new) ≡ Some code
+  pub entry_refused : first_rule (adding_rules t new) ≡ Some code
       → refusal t (LinkAt old old_name new new_name) ≡ Some code
   unfolding refusal
   entry_refused refused =
@@ -50,7 +50,7 @@ module _ {t : Tree} {old new n : ℕ} {old_name new_name : List ℕ} {code : Err
       let missing = are.missing in
       grind (arith)
 
-  pub links_refused : first_rule (entry_rows t new) ≡ None → first_rule (links_rows t (Some n)) ≡ Some code
+  pub links_refused : first_rule (adding_rules t new) ≡ None → first_rule (links_rules t (Some n)) ≡ Some code
       → refusal t (LinkAt old old_name new new_name) ≡ Some code
   unfolding refusal
   links_refused entered refused =
@@ -60,7 +60,7 @@ module _ {t : Tree} {old new n : ℕ} {old_name new_name : List ℕ} {code : Err
       grind (arith)
 
 pub links_free : {t : Tree} {old new n : ℕ} {old_name new_name : List ℕ} → AreNamed t old old_name new new_name n
-    → first_rule (entry_rows t new) ≡ None → first_rule (links_rows t (Some n)) ≡ None
+    → first_rule (adding_rules t new) ≡ None → first_rule (links_rules t (Some n)) ≡ None
     → refusal t (LinkAt old old_name new new_name) ≡ None
 unfolding refusal
 links_free are entered linked =
@@ -107,7 +107,7 @@ with_nodes-append s (n ∷ ns) ms = with_nodes-append (insert s n) ns ms
 pub adds_name : {s u : Touched} {old new n : ℕ} {old_name new_name : List ℕ}
     → MayLink s.tree old old_name new new_name n → u.tree ≡ name_added s.tree new new_name n
     → u.touched ≡ with_nodes (with_nodes s.touched (found_under s.tree old old_name)) (found_under s.tree new new_name)
-    → AnsweredByTable s u (LinkAt old old_name new new_name) tt
+    → AnsweredByRules s u (LinkAt old old_name new new_name) tt
 adds_name {s} {old = old} {new} {old_name = old_name} {new_name} may tree touched =
     let first : List ℕ = found_under s.tree old old_name in
     let second : List ℕ = found_under s.tree new new_name in

@@ -5,7 +5,7 @@ use Rattle.std.specs.Ordering.{nat_cmp}
 use Rattle.std.specs.FinSet.{contains, empty, contains-empty}
 use Rattle.wasi_host.specs.Tree.{Tree, is_directory, node_at, next_of, child, hold_one}
 use Rattle.wasi_host.specs.HostCall.{HostCall, OpenAt, StatAt, ReadLinkAt, MakeDirAt, SymlinkAt, LinkAt, RenameAt, UnlinkAt, RemoveDirAt, TimesAt, Access, Stat, SetTimes, Pread, Pwrite, Append, SetSize, Sync, Advise, Flags, ListDir, Dup, Close}
-use Rattle.wasi_host.specs.Refusal.{refusal, first_rule, naming_rows, loop_rows, moving_rows, renaming_rows}
+use Rattle.wasi_host.specs.Refusal.{refusal, first_rule, naming_rules, loop_rules, moving_rules, renaming_rules}
 use Rattle.wasi_host.specs.Answer.{HostAnswer}
 use Rattle.wasi_host.specs.FurtherLaws.{FollowsPlan}
 use Rattle.wasi_host.specs.HostLaws.{AllHeld, IsHeld, HasCause, never_fails}
@@ -16,9 +16,9 @@ use Rattle.wasi_host.specs.declared.injected_fault.InjectedFault.TheVariants.{Pa
 use Rattle.wasi_host.specs.declared.open_handle.AccessMode.TheVariants.{PathOnly}
 use Rattle.wasi_host.proofs.Changes.{directory_within}
 use Rattle.wasi_host.proofs.Refusals.{refusal_of, part_refuses}
-use Rattle.wasi_tree.specs.MemState.{HeldMap, MemState, live_of, held_in, world_of}
+use Rattle.wasi_tree.specs.MemState.{HeldMap, MemState, live_of, held_in, model_of}
 use Rattle.wasi_tree.specs.Sound.{HoldsNodes, NodesStay}
-use Rattle.wasi_tree.specs.TouchedTree.{Touched, Grows, RefusedByTable, FollowsTable}
+use Rattle.wasi_tree.specs.TouchedTree.{Touched, Grows, RefusedByRules, FollowsRules}
 use Rattle.wasi_tree.proofs.TouchedLemmas.{held_stays}
 use Rattle.wasi_tree.proofs.SlotLemmas.{holds-released, holds-given}
 
@@ -40,7 +40,7 @@ path_held t n directory = record {
 
 -- what always holds of the state
 pub all_held : (m : MemState) (HasRoom : ℕ → Type 0) → HoldsNodes m.tree HasRoom m.handles
-    → AllHeld (live_of m.handles) (world_of m)
+    → AllHeld (live_of m.handles) (model_of m)
 all_held m HasRoom holds = record { each = holds.each }
 
 -- with no live handle
@@ -62,22 +62,22 @@ holds-on holds stays grows = record {
 -- ---- no row is `Io`
 
 naming_io : (t : Tree) (old : ℕ) (old_name : List ℕ) (new : ℕ) (new_name : List ℕ) (requires_dir : Bool)
-    → first_rule (naming_rows t old old_name new new_name requires_dir) ≢ Some Io
+    → first_rule (naming_rules t old old_name new new_name requires_dir) ≢ Some Io
 naming_io t old old_name new new_name requires_dir io = grind (arith)
 
-loop_io : (t : Tree) (old new : ℕ) (found there : Option ℕ) → first_rule (loop_rows t old new found there) ≢ Some Io
+loop_io : (t : Tree) (old new : ℕ) (found there : Option ℕ) → first_rule (loop_rules t old new found there) ≢ Some Io
 loop_io t old new found there io = grind (arith)
 
 moving_io : (t : Tree) (old new : ℕ) (found there : Option ℕ) (one : Bool)
-    → first_rule (cond one [] (moving_rows t old new found there)) ≢ Some Io
+    → first_rule (cond one [] (moving_rules t old new found there)) ≢ Some Io
 moving_io t old new found there true io = absurd (cc)
 moving_io t old new found there false io = grind (arith)
 
 renaming_io : (t : Tree) (old new : ℕ) (found there : Option ℕ)
-    → first_rule (renaming_rows t old new found there) ≢ Some Io
+    → first_rule (renaming_rules t old new found there) ≢ Some Io
 renaming_io t old new found there io =
     let one : Bool = hold_one found there in
-    elim (part_refuses (loop_rows t old new found there) (cond one [] (moving_rows t old new found there)) io) [
+    elim (part_refuses (loop_rules t old new found there) (cond one [] (moving_rules t old new found there)) io) [
       | inl is ↦ loop_io t old new found there is
       | inr is ↦ moving_io t old new found there one is
     ]
@@ -88,7 +88,7 @@ unfolding refusal
 rename_io t old old_name new new_name requires_dir io =
     let found : Option ℕ = child t old old_name in
     let there : Option ℕ = child t new new_name in
-    elim (part_refuses (naming_rows t old old_name new new_name requires_dir) (renaming_rows t old new found there) io) [
+    elim (part_refuses (naming_rules t old old_name new new_name requires_dir) (renaming_rules t old new found there) io) [
       | inl is ↦ naming_io t old old_name new new_name requires_dir is
       | inr is ↦ renaming_io t old new found there is
     ]
@@ -124,7 +124,7 @@ never_io t Close io = grind (arith)
 no_fault : {A : Type 0} (result : Result A HostError) → result ≢ Err (Code Io) → HasCause never_fails never_fails result
 no_fault result never = record { later = omega arith; most = refl; io = λ is. absurd (never is) }
 
-pub cause_of : {A : Type 0} {s u : Touched} (call : HostCall) (error : HostError) → RefusedByTable s u call error
+pub cause_of : {A : Type 0} {s u : Touched} (call : HostCall) (error : HostError) → RefusedByRules s u call error
     → HasCause {A = A} never_fails never_fails (Err error)
 cause_of call Memory is = no_fault (Err Memory) (λ io. (cc))
 cause_of {s = s} call (Code code) is =
@@ -134,12 +134,12 @@ cause_of {s = s} call (Code code) is =
 
 -- of a call whose refusal is passed on
 pub cause_passed : {A : Type 0} {s u : Touched} {call : HostCall} {error : HostError} (result : Result A HostError)
-    → IsErrAnd result (λ e. e ≡ error) → RefusedByTable s u call error → HasCause never_fails never_fails result
+    → IsErrAnd result (λ e. e ≡ error) → RefusedByRules s u call error → HasCause never_fails never_fails result
 cause_passed (Ok a) is refused = absurd is
 cause_passed {call = call} {error = error} (Err passed) is refused = rw is (cause_of call error refused)
 
 pub cause_done : {A : Type 0} (s u : Touched) (call : HostCall) (shown : A → HostAnswer call)
-    (result : Result A HostError) → FollowsTable s u call shown result → HasCause never_fails never_fails result
+    (result : Result A HostError) → FollowsRules s u call shown result → HasCause never_fails never_fails result
 cause_done s u call shown (Ok a) is = no_fault (Ok a) (λ io. (cc))
 cause_done s u call shown (Err error) is = cause_of call error is
 

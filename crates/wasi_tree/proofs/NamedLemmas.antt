@@ -13,7 +13,7 @@ use Rattle.wasi_tree_index.proofs.NamesLemmas.{get-names_at, names_at-insert, na
 use Rattle.wasi_tree.specs.StoredTree.{stored_node, stored_content, with_names, named_content, named_from, AreBelow, OtherNamesStay, with_first}
 use Rattle.wasi_tree.specs.declared.inode.Inode.{Inode}
 use Rattle.wasi_tree.specs.declared.inode.InodeContent.{InodeContent}
-use Rattle.wasi_tree.specs.declared.inode.InodeContent.TheVariants as rows
+use Rattle.wasi_tree.specs.declared.inode.InodeContent.TheVariants as inodes
 
 -- what is said of a content without a look at the names of a directory
 pub said_of-named : {B : Type 0} (f : Content → B)
@@ -41,13 +41,13 @@ unnamed-name_lost names = each_kind (λ c. named_content names (name_lost c) ≡
     (λ _ _. refl) (λ _ _. refl) (λ _ _. refl)
 
 -- a row has no names of its own
-pub named_row : (row : Inode) → with_names empty (stored_node row) ≡ stored_node row
-named_row row = ap (λ c. let n : Node = record (stored_node row) { content = c } in n) (by row.content)
+pub named_inode : (inode : Inode) → with_names empty (stored_node inode) ≡ stored_node inode
+named_inode inode = ap (λ c. let n : Node = record (stored_node inode) { content = c } in n) (by inode.content)
   where
     by : (c : InodeContent) → named_content empty (stored_content c) ≡ stored_content c
-    by (rows.File bytes links) = refl
-    by (rows.Dir gone) = refl
-    by (rows.Link text links) = refl
+    by (inodes.File bytes links) = refl
+    by (inodes.Dir gone) = refl
+    by (inodes.Link text links) = refl
 
 pub length-named : (m : AllNames) (k : ℕ) (nodes : List Node) → length (named_from m k nodes) ≡ length nodes
 length-named m k [] = refl

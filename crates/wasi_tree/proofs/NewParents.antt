@@ -13,10 +13,10 @@ use Rattle.wasi_host.specs.declared.limits.Limits.{Limits}
 use Rattle.wasi_host.proofs.Changes.{changed, directory_within, node_at-changed, node_at-other, node_at-past}
 use Rattle.wasi_host.proofs.Leaving.{no_name}
 use Rattle.wasi_host.proofs.EntryLemmas.{find_in, unnamed, once, times-removed, nat_eq-refl}
-use Rattle.wasi_tree.specs.Given.{Given, GivenContent, file, directory, link, given_entries, content_from, tree_of}
+use Rattle.wasi_tree.specs.NodeData.{NodeData, ContentData, file, directory, link, data_entries, content_from, tree_of}
 use Rattle.wasi_tree.specs.WellFormed.{entries_held, IsFitContent, AreFit}
 use Rattle.wasi_tree.specs.ParentOf.{named_at, numbers_at, AreParents, TellParents}
-use Rattle.wasi_tree.proofs.FitValid.{node_is, next_is, names_given, given_names, name_at, all_distinct, count_is}
+use Rattle.wasi_tree.proofs.FitValid.{node_is, next_is, names_of_data, data_names, name_at, all_distinct, count_is}
 use Rattle.wasi_tree.proofs.FoundLemmas.{entry_of}
 use Rattle.wasi_tree.proofs.NewTreeLemmas.{content_named}
 use Rattle.wasi_tree.proofs.ParentLemmas.{without_name_gone}
@@ -69,14 +69,14 @@ found_number name n (e ∷ es) is =
       | false ↦ λ rest. let found = found_number name n es rest in (suc found.0, omega (arith, found.1), found.2)
     ] is
 
-given_number : (content : GivenContent) (name : List ℕ) (n : ℕ) → maps.get (given_names content) name ≡ Some n
-    → Contains (map (λ e. e.1) (given_entries content)) n
-given_number (file bytes) name n is = absurd (unnamed maps.empty name n refl is)
-given_number (directory entries) name n is =
+data_number : (content : ContentData) (name : List ℕ) (n : ℕ) → maps.get (data_names content) name ≡ Some n
+    → Contains (map (λ e. e.1) (data_entries content)) n
+data_number (file bytes) name n is = absurd (unnamed maps.empty name n refl is)
+data_number (directory entries) name n is =
     found_number name n entries (sym (maps.get-from_entries nat_list_cmp_total entries name) ∙ is)
-given_number (link text) name n is = absurd (unnamed maps.empty name n refl is)
+data_number (link text) name n is = absurd (unnamed maps.empty name n refl is)
 
-few_names : (limits : Limits) (nodes : List Given) (n : ℕ) (content : GivenContent) → AreFit limits nodes
+few_names : (limits : Limits) (nodes : List NodeData) (n : ℕ) (content : ContentData) → AreFit limits nodes
     → is_directory (content_from nodes n content) ≡ true → IsFitContent limits nodes n content
     → name_count (tree_of nodes limits) n ≤ 1
 few_names limits nodes n (file bytes) are is fit = absurd (true≢false (sym is))
@@ -87,12 +87,12 @@ few_names limits nodes (suc n) (directory entries) are is fit = elim fit.2 [
 ]
 few_names limits nodes n (link text) are is fit = absurd (true≢false (sym is))
 
-in_range : (nodes : List Given) (d : ℕ) → d < length nodes → slice_get nodes d ≡ None → ⊥
+in_range : (nodes : List NodeData) (d : ℕ) → d < length nodes → slice_get nodes d ≡ None → ⊥
 in_range [] d before none = absurd (omega (arith, before))
 in_range (g ∷ gs) zero before none = absurd (cc)
 in_range (g ∷ gs) (suc d) before none = in_range gs d (omega (arith, before)) none
 
-module _ (limits : Limits) (nodes : List Given) (are : AreFit limits nodes) where
+module _ (limits : Limits) (nodes : List NodeData) (are : AreFit limits nodes) where
   abbrev made : Tree
   made = tree_of nodes limits
 
@@ -104,34 +104,34 @@ module _ (limits : Limits) (nodes : List Given) (are : AreFit limits nodes) wher
     | inr after ↦ omega (arith, after, next_is nodes limits)
   ]
 
-  names_at : (d : ℕ) (g : Given) → slice_get nodes d ≡ Some g → (q : List ℕ)
-      → named_at made d q ≡ maps.get (given_names g.content) q
+  names_at : (d : ℕ) (g : NodeData) → slice_get nodes d ≡ Some g → (q : List ℕ)
+      → named_at made d q ≡ maps.get (data_names g.content) q
   names_at d g is q =
       ap (λ (node : Node). maps.get (names_of node.content) q) (node_is nodes limits d g is)
-      ∙ ap (λ (m : Names). maps.get m q) (names_given nodes d g.content)
+      ∙ ap (λ (m : Names). maps.get m q) (names_of_data nodes d g.content)
 
   number_of_name : (d n : ℕ) (q : List ℕ) → named_at made d q ≡ Some n → Contains (numbers_at nodes d) n
   number_of_name d n q named = by (slice_get nodes d) refl
     where
-      by : (o : Option Given) → slice_get nodes d ≡ o → Contains (map (λ e. e.1) (entries_held o)) n
+      by : (o : Option NodeData) → slice_get nodes d ≡ o → Contains (map (λ e. e.1) (entries_held o)) n
       by None is = absurd (no_name q n
           (ap (λ (x : Node). maps.get (names_of x.content) q) (sym (node_at-past made d (past d is))) ∙ named))
-      by (Some g) is = given_number g.content q n (sym (names_at d g is q) ∙ named)
+      by (Some g) is = data_number g.content q n (sym (names_at d g is q) ∙ named)
 
   name_of_number : (d n : ℕ) → Contains (numbers_at nodes d) n → (q : List ℕ) × (named_at made d q ≡ Some n)
   name_of_number d n has = by (slice_get nodes d) refl has
     where
-      by : (o : Option Given) → slice_get nodes d ≡ o → Contains (map (λ e. e.1) (entries_held o)) n
+      by : (o : Option NodeData) → slice_get nodes d ≡ o → Contains (map (λ e. e.1) (entries_held o)) n
           → (q : List ℕ) × (named_at made d q ≡ Some n)
       by None is none = absurd (omega (arith, none.1))
       by (Some g) is number =
-          let e = entry_of (given_entries g.content) n number in
+          let e = entry_of (data_entries g.content) n number in
           (e.0.0, names_at d g is e.0.0 ∙ name_at g.content e.0 (all_distinct limits nodes are d g is) e.1 ∙ ap Some e.2)
 
   within : (d n : ℕ) (q : List ℕ) → named_at made d q ≡ Some n → n < length nodes
   within d n q named = by (slice_get nodes d) refl
     where
-      by : (o : Option Given) → slice_get nodes d ≡ o → n < length nodes
+      by : (o : Option NodeData) → slice_get nodes d ≡ o → n < length nodes
       by None is = absurd (no_name q n
           (ap (λ (x : Node). maps.get (names_of x.content) q) (sym (node_at-past made d (past d is))) ∙ named))
       by (Some g) is =
@@ -141,7 +141,7 @@ module _ (limits : Limits) (nodes : List Given) (are : AreFit limits nodes) wher
   few : (n : ℕ) → is_directory (node_at made n).content ≡ true → name_count made n ≤ 1
   few n kind = by (slice_get nodes n) refl
     where
-      by : (o : Option Given) → slice_get nodes n ≡ o → name_count made n ≤ 1
+      by : (o : Option NodeData) → slice_get nodes n ≡ o → name_count made n ≤ 1
       by None is = absurd (true≢false
           (sym kind ∙ ap (λ (x : Node). is_directory x.content) (node_at-past made n (past n is))))
       by (Some g) is =

@@ -14,8 +14,8 @@ use Rattle.wasi_paths.specs.Text.{has_nul, is_entry_name}
 use Rattle.wasi_host.specs.Tree.{Tree, Node, Nodes, node_at, stray, names_of, text_of, is_link}
 use Rattle.wasi_host.specs.declared.limits.Limits.{Limits}
 use Rattle.wasi_host.specs.Numbers.{longest_link}
-use Rattle.wasi_tree.specs.Given.{Given, GivenContent, file, directory, link, entry_count, content_from, node_from, nodes_from, tree_of}
-use Rattle.wasi_tree.specs.GivenTests.{numbers_from}
+use Rattle.wasi_tree.specs.NodeData.{NodeData, ContentData, file, directory, link, entry_count, content_from, node_from, nodes_from, tree_of}
+use Rattle.wasi_tree.specs.NodeDataTests.{numbers_from}
 use Rattle.wasi_tree.specs.WellFormed.{is_fit_entry, IsFitContent, IsFit, AreFit, name_counts}
 use Rattle.wasi_tree_index.specs.DirEntryKeys.{AllNames, names_at}
 use Rattle.wasi_tree.specs.StoredTree.{stored_node, stored_tree, with_names, named_from, AreBelow, OtherNamesStay, IsStored}
@@ -37,26 +37,26 @@ value_at f k zero i d within = absurd (omega arith)
 value_at f k (suc n) zero d within = ap f (omega arith)
 value_at f k (suc n) (suc i) d within = value_at f (k + 1) n i d (omega arith) ∙ ap f (omega arith)
 
-length-name_counts : (all : List Given) → length (name_counts all) ≡ length all
+length-name_counts : (all : List NodeData) → length (name_counts all) ≡ length all
 length-name_counts all =
     length-map (numbers_from 0 (length all)) (λ n. entry_count n all) ∙ length-numbers 0 (length all)
 
 -- ---- rows of the nodes, one after another
 
 -- the rows and names of the first nodes are made, and these nodes are left
-pub record AreRows (all : List Given) (rows : List Inode) (names : AllNames) (left : List Given) : Type 0 where
-  pub same : named_from names 0 (map stored_node rows) ++ nodes_from all (length rows) left ≡ nodes_from all 0 all
-  pub count : length rows + length left ≡ length all
-  pub below : AreBelow names (length rows)
+pub record AreInodes (all : List NodeData) (inodes : List Inode) (names : AllNames) (left : List NodeData) : Type 0 where
+  pub same : named_from names 0 (map stored_node inodes) ++ nodes_from all (length inodes) left ≡ nodes_from all 0 all
+  pub count : length inodes + length left ≡ length all
+  pub below : AreBelow names (length inodes)
 
-pub no_row : (all : List Given) (rows : List Inode) (names : AllNames) → rows ≡ [] → names ≡ maps.empty
-    → AreRows all rows names all
-no_row all rows names none bare = subst (λ (made : List Inode). AreRows all made names all) (sym none)
+pub no_inode : (all : List NodeData) (inodes : List Inode) (names : AllNames) → inodes ≡ [] → names ≡ maps.empty
+    → AreInodes all inodes names all
+no_inode all inodes names none bare = subst (λ (made : List Inode). AreInodes all made names all) (sym none)
     (record { same = refl; count = omega arith; below = none_below 0 bare })
 
 -- the next number has a count, which is how many entries give it
-pub next_count : {all : List Given} {rows : List Inode} {names : AllNames} {n : ℕ} {left rest : List Given} {g : Given} {counts : List ℕ}
-    → n ≡ length rows → counts ≡ name_counts all → left ≡ g ∷ rest → AreRows all rows names left
+pub next_count : {all : List NodeData} {inodes : List Inode} {names : AllNames} {n : ℕ} {left rest : List NodeData} {g : NodeData} {counts : List ℕ}
+    → n ≡ length inodes → counts ≡ name_counts all → left ≡ g ∷ rest → AreInodes all inodes names left
     → (n < length counts) × (slice_index_or counts n 0 ≡ entry_count n all)
 next_count {all} {n = n} number is next so_far =
     let within : n < length all = omega (arith, number, so_far.count, ap length next) in (
@@ -65,26 +65,26 @@ next_count {all} {n = n} number is next so_far =
           ∙ value_at (λ k. entry_count k all) 0 (length all) n 0 within ∙ ap (λ k. entry_count k all) (omega arith),
     )
 
-pub row_more : {all : List Given} {rows now : List Inode} {names more : AllNames} {n : ℕ} {left rest : List Given} {g : Given}
-    (row : Inode) → n ≡ length rows → now ≡ rows ++ row ∷ []
-    → with_names (names_at more n) (stored_node row) ≡ node_from all n g → OtherNamesStay n names more
-    → left ≡ g ∷ rest → AreRows all rows names left → AreRows all now more rest
-row_more {all} {rows} {now} {names} {more} {n} {left} {rest} {g} row number pushed is others next so_far =
-    let long : length now ≡ length rows + 1 = ap length pushed ∙ length-append rows (row ∷ []) in
-    let count : length (map stored_node rows) ≡ length rows = length-map rows stored_node in
+pub inode_more : {all : List NodeData} {inodes now : List Inode} {names more : AllNames} {n : ℕ} {left rest : List NodeData} {g : NodeData}
+    (inode : Inode) → n ≡ length inodes → now ≡ inodes ++ inode ∷ []
+    → with_names (names_at more n) (stored_node inode) ≡ node_from all n g → OtherNamesStay n names more
+    → left ≡ g ∷ rest → AreInodes all inodes names left → AreInodes all now more rest
+inode_more {all} {inodes} {now} {names} {more} {n} {left} {rest} {g} inode number pushed is others next so_far =
+    let long : length now ≡ length inodes + 1 = ap length pushed ∙ length-append inodes (inode ∷ []) in
+    let count : length (map stored_node inodes) ≡ length inodes = length-map inodes stored_node in
     let made : named_from more 0 (map stored_node now)
-    ≡ named_from names 0 (map stored_node rows) ++ node_from all (length rows) g ∷ [] =
+    ≡ named_from names 0 (map stored_node inodes) ++ node_from all (length inodes) g ∷ [] =
     ap (λ items. named_from more 0 (map stored_node items)) pushed
-    ∙ ap (named_from more 0) (map_push stored_node rows row)
-    ∙ named_push more (map stored_node rows) (stored_node row)
-    ∙ (λ i. named-others others 0 (map stored_node rows) (omega (arith, number, count)) i
-    ++ (ap (λ k. with_names (names_at more k) (stored_node row)) (count ∙ sym number) ∙ is ∙ ap (λ k. node_from all k g) number) i ∷ []) in
+    ∙ ap (named_from more 0) (map_push stored_node inodes inode)
+    ∙ named_push more (map stored_node inodes) (stored_node inode)
+    ∙ (λ i. named-others others 0 (map stored_node inodes) (omega (arith, number, count)) i
+    ++ (ap (λ k. with_names (names_at more k) (stored_node inode)) (count ∙ sym number) ∙ is ∙ ap (λ k. node_from all k g) number) i ∷ []) in
     record {
       same =
           (λ i. made i ++ nodes_from all (long i) rest)
-          ∙ append_assoc (named_from names 0 (map stored_node rows)) (node_from all (length rows) g ∷ [])
-          (nodes_from all (length rows + 1) rest)
-          ∙ ap (λ gs. named_from names 0 (map stored_node rows) ++ nodes_from all (length rows) gs) (sym next) ∙ so_far.same;
+          ∙ append_assoc (named_from names 0 (map stored_node inodes)) (node_from all (length inodes) g ∷ [])
+          (nodes_from all (length inodes + 1) rest)
+          ∙ ap (λ gs. named_from names 0 (map stored_node inodes) ++ nodes_from all (length inodes) gs) (sym next) ∙ so_far.same;
       count = omega (arith, long, ap length next, so_far.count);
       below = record {
         none = λ e past.
@@ -94,7 +94,7 @@ row_more {all} {rows} {now} {names} {more} {n} {left} {rest} {g} row number push
 
 -- ---- fit nodes are sound
 
-pub length-nodes_from : (all : List Given) (k : ℕ) (gs : List Given) → length (nodes_from all k gs) ≡ length gs
+pub length-nodes_from : (all : List NodeData) (k : ℕ) (gs : List NodeData) → length (nodes_from all k gs) ≡ length gs
 length-nodes_from all k [] = refl
 length-nodes_from all k (g ∷ gs) = ap suc (length-nodes_from all (k + 1) gs)
 
@@ -121,15 +121,15 @@ entries_fit count (e ∷ es) are name n is =
         (subst (λ x. x < count) same fit.0, ap is_entry_name (same_name name e.0 tie) ∙ fit.1)
     pick false tie rest fit found = rest found
 
-module _ (limits : Limits) (all : List Given) where
-  pub content_named : (k : ℕ) (content : GivenContent) → IsFitContent limits all k content → (name : List ℕ) (n : ℕ)
+module _ (limits : Limits) (all : List NodeData) where
+  pub content_named : (k : ℕ) (content : ContentData) → IsFitContent limits all k content → (name : List ℕ) (n : ℕ)
       → maps.get (names_of (content_from all k content)) name ≡ Some n
       → (n < length all) × (is_entry_name name ≡ true)
   content_named k (file bytes) fit name n is = absurd (unnamed maps.empty name n refl is)
   content_named k (directory entries) fit name n is = entries_fit (length all) entries fit.0 name n is
   content_named k (link text) fit name n is = absurd (unnamed maps.empty name n refl is)
 
-  content_text : (k : ℕ) (content : GivenContent) → IsFitContent limits all k content
+  content_text : (k : ℕ) (content : ContentData) → IsFitContent limits all k content
       → is_link (content_from all k content) ≡ true → IsSoundText (text_of (content_from all k content))
   content_text k (file bytes) fit linked = absurd (true≢false (sym linked))
   content_text k (directory entries) fit linked = absurd (true≢false (sym linked))
@@ -140,41 +140,41 @@ module _ (limits : Limits) (all : List Given) where
       let parts = and_parts (nat_lt 0 (length text)) (nat_le (length text) longest_link) short.0 in
       record { some = ltb-true 0 (length text) parts.0; most = leb-true (length text) longest_link parts.1 }
 
-  node_sound : (k : ℕ) (g : Given) → IsFit limits all k g → IsSoundNode (length all) (node_from all k g)
+  node_sound : (k : ℕ) (g : NodeData) → IsFit limits all k g → IsSoundNode (length all) (node_from all k g)
   node_sound k g fit = record {
     below = λ name n is. (content_named k g.content fit.1 name n is).0;
     named = λ name n is. (content_named k g.content fit.1 name n is).1;
     text = content_text k g.content fit.1;
   }
 
-  nodes_sound : (k : ℕ) (gs : List Given)
+  nodes_sound : (k : ℕ) (gs : List NodeData)
       → ((j n : ℕ) → j ≡ k + n → ForSome (slice_get gs n) (IsFit limits all j)) → (n : ℕ)
       → IsSoundNode (length all) (slice_index_or (nodes_from all k gs) n stray)
   nodes_sound k [] fit n = bare (length all) stray refl refl
   nodes_sound k (g ∷ gs) fit zero = node_sound k g (fit k 0 (omega arith) g refl)
   nodes_sound k (g ∷ gs) fit (suc n) = nodes_sound (k + 1) gs (λ j m is. fit j (suc m) (omega (arith, is))) n
 
-pub rows_sound : (rows : List Inode) (names : AllNames) (limits : Limits) (worked : Nodes) (marks : ℕ) (all : List Given)
-    → AreFit limits all → named_from names 0 (map stored_node rows) ≡ nodes_from all 0 all → marks ≡ length rows
-    → AreBelow names (length rows) → IsStored rows names limits worked marks
+pub inodes_sound : (inodes : List Inode) (names : AllNames) (limits : Limits) (worked : Nodes) (marks : ℕ) (all : List NodeData)
+    → AreFit limits all → named_from names 0 (map stored_node inodes) ≡ nodes_from all 0 all → marks ≡ length inodes
+    → AreBelow names (length inodes) → IsStored inodes names limits worked marks
 unfolding node_at
-rows_sound rows names limits worked marks all fit same counted below = record {
+inodes_sound inodes names limits worked marks all fit same counted below = record {
   sound = record {
     nodes = λ n.
         subst (λ (nodes : List Node). IsSoundNode (length nodes) (slice_index_or nodes n stray)) (sym same)
         (subst (λ count. IsSoundNode count (slice_index_or (nodes_from all 0 all) n stray))
         (sym (length-nodes_from all 0 all)) (nodes_sound limits all 0 all (λ j m is.
         subst (λ i. ForSome (slice_get all i) (IsFit limits all j)) (omega (arith, is)) ((fit j).fit)) n));
-    counted = counted ∙ sym (length-named names 0 (map stored_node rows) ∙ length-map rows stored_node);
+    counted = counted ∙ sym (length-named names 0 (map stored_node inodes) ∙ length-map inodes stored_node);
   };
   below = below;
 }
 
-pub rows_tree : (rows : List Inode) (names : AllNames) (limits : Limits) (worked : Nodes) (all : List Given)
-    → named_from names 0 (map stored_node rows) ≡ nodes_from all 0 all → worked ≡ set.empty
-    → stored_tree rows names limits worked ≡ tree_of all limits
+pub inodes_tree : (inodes : List Inode) (names : AllNames) (limits : Limits) (worked : Nodes) (all : List NodeData)
+    → named_from names 0 (map stored_node inodes) ≡ nodes_from all 0 all → worked ≡ set.empty
+    → stored_tree inodes names limits worked ≡ tree_of all limits
 unfolding tree_of
-rows_tree rows names limits worked all same none =
+inodes_tree inodes names limits worked all same none =
     λ i. let t : Tree = record { nodes = same i; limits = limits; worked = none i } in t
 
-pub ruleset new_tree_rules = (rows_sound, rows_tree)
+pub ruleset new_tree_rules = (inodes_sound, inodes_tree)

@@ -3,16 +3,16 @@ use Rattle.std.proofs.Common.{◌≡◌, Bool, true}
 use Rattle.wasi_host.specs.Time.{zero_time}
 use Rattle.wasi_host.specs.Tree.{Node, Content, default_bits}
 use Rattle.wasi_host.specs.Step.{new_node}
-use Rattle.wasi_tree.specs.Given.{given, given_content, may_search, new_given}
+use Rattle.wasi_tree.specs.NodeData.{node_data, content_data, may_search, new_node_data}
 use Rattle.wasi_tree.specs.declared.node.NewNode.{NewNode}
 
 -- a node with the bits and times of a new one
-pub given-new : (node : NewNode)
-    → node.bits ≡ record { r = true; w = true; x = may_search (given_content node.content) }
+pub node_data-new : (node : NewNode)
+    → node.bits ≡ record { r = true; w = true; x = may_search (content_data node.content) }
     → node.atime ≡ zero_time → node.mtime ≡ zero_time → node.btime ≡ zero_time
-    → given node ≡ new_given (given_content node.content)
-given-new node bits atime mtime btime = λ i. record {
-  content = given_content node.content;
+    → node_data node ≡ new_node_data (content_data node.content)
+node_data-new node bits atime mtime btime = λ i. record {
+  content = content_data node.content;
   bits = bits i;
   atime = atime i;
   mtime = mtime i;

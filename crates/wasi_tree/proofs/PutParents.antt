@@ -7,7 +7,7 @@ use Rattle.std.proofs.lemmas.List.{length-set, length-map, length-replicate, get
 use Rattle.std.proofs.lemmas.List.Elements.{Contains-append_left, Contains-append_right, Contains-append_cases}
 use Rattle.wasi_tree.specs.declared.node.NewEntry.{NewEntry}
 use Rattle.wasi_tree.specs.declared.node.NewNode.{NewNode}
-use Rattle.wasi_tree.specs.Given.{Given, pair_of, given, given_content, given_entries}
+use Rattle.wasi_tree.specs.NodeData.{NodeData, pair_of, node_data, content_data, data_entries}
 use Rattle.wasi_tree.specs.FitTests.{entry_numbers}
 use Rattle.wasi_tree.specs.ParentOf.{parent_of, ArePut, numbers_at, TellParents}
 use Rattle.wasi_tree.proofs.CountLemmas.{entry_numbers-take}
@@ -74,40 +74,40 @@ put_entry {d} {old} {mid} {new} entries i entry are within at more =
 
 -- ---- those of the first nodes
 
-pub record TellFirst (nodes : List Given) (count : ℕ) (parents : List (Option ℕ)) : Type 0 where
+pub record TellFirst (nodes : List NodeData) (count : ℕ) (parents : List (Option ℕ)) : Type 0 where
   pub len : length parents ≡ length nodes
   pub each : (d n : ℕ) → d < count → Contains (numbers_at nodes d) n → n < length nodes
       → (e : ℕ) × (parent_of parents n ≡ Some e)
   pub from : (d n : ℕ) → parent_of parents n ≡ Some d → Contains (numbers_at nodes d) n
 
 pub tell_none : {start : List (Option ℕ)} (nodes : List NewNode) → start ≡ replicate (length nodes) None
-    → TellFirst (map given nodes) 0 start
+    → TellFirst (map node_data nodes) 0 start
 tell_none {start} nodes is =
     let count : length start ≡ length nodes = ap length is ∙ length-replicate (length nodes) None in
     let nothing : (n : ℕ) → parent_of start n ≡ None = λ n. elim (cases_lt n (length nodes)) [
       | inl within ↦ ap (λ ps. parent_of ps n) is ∙ get_or-replicate (length nodes) n None None within
       | inr past ↦ get_or_past start n None (omega (arith, count, past))
     ] in record {
-      len = count ∙ sym (length-map nodes given);
+      len = count ∙ sym (length-map nodes node_data);
       each = λ d n none has within. absurd (omega (arith, none));
       from = λ d n some. let none = nothing n in absurd (cc);
     }
 
 -- one node more
 pub tell_more : {old new : List (Option ℕ)} (nodes : List NewNode) (d : ℕ) (node : NewNode) (part : List NewEntry)
-    → TellFirst (map given nodes) d old → d < length nodes → node ≡ slice_index_or nodes d node
-    → map pair_of part ≡ given_entries (given_content node.content) → ArePut d (entry_numbers part) old new
-    → TellFirst (map given nodes) (d + 1) new
+    → TellFirst (map node_data nodes) d old → d < length nodes → node ≡ slice_index_or nodes d node
+    → map pair_of part ≡ data_entries (content_data node.content) → ArePut d (entry_numbers part) old new
+    → TellFirst (map node_data nodes) (d + 1) new
 tell_more {old} {new} nodes d node part tell within at entries put =
-    let numbers : entry_numbers part ≡ numbers_at (map given nodes) d =
+    let numbers : entry_numbers part ≡ numbers_at (map node_data nodes) d =
     ap (λ (es : List (List ℕ × ℕ)). map (λ e. e.1) es) (entries ∙ entries_are nodes d node within at) in
-    let are : ArePut d (numbers_at (map given nodes) d) old new =
+    let are : ArePut d (numbers_at (map node_data nodes) d) old new =
     subst (λ (ns : List ℕ). ArePut d ns old new) numbers put in record {
       len = are.len ∙ tell.len;
       each = λ e n below has inside. elim (cases_eq e d) [
         | inl here ↦ (
           d,
-          are.each n (subst (λ k. Contains (numbers_at (map given nodes) k) n) here has)
+          are.each n (subst (λ k. Contains (numbers_at (map node_data nodes) k) n) here has)
               (omega (arith, inside, tell.len)),
         )
         | inr other ↦
@@ -119,18 +119,18 @@ tell_more {old} {new} nodes d node part tell within at entries put =
           (λ p.
           let both : Some d ≡ Some e = sym p.1 ∙ is in
           let here : d ≡ e = (cc) in
-          subst (λ k. Contains (numbers_at (map given nodes) k) n) here p.0)
+          subst (λ k. Contains (numbers_at (map node_data nodes) k) n) here p.0)
           (are.from n);
     }
 
 -- only a node in range has numbers
 pub tell_all : {parents : List (Option ℕ)} (nodes : List NewNode) (count : ℕ) → length nodes ≤ count
-    → TellFirst (map given nodes) count parents → TellParents (map given nodes) parents
+    → TellFirst (map node_data nodes) count parents → TellParents (map node_data nodes) parents
 tell_all nodes count all tell = record {
   len = tell.len;
   each = λ d n has within.
-      let inside = has_numbers (map given nodes) d n has in
-      tell.each d n (omega (arith, inside, all, length-map nodes given)) has within;
+      let inside = has_numbers (map node_data nodes) d n has in
+      tell.each d n (omega (arith, inside, all, length-map nodes node_data)) has within;
   from = tell.from;
 }
 

@@ -8,7 +8,7 @@ use Rattle.wasi_paths.specs.Text.{is_dot_text, is_name_text}
 use Rattle.wasi_host.specs.Below.{is_below}
 use Rattle.wasi_host.specs.Tree.{Tree, next_of, node_at, names_of, child, is_directory, hold_one}
 use Rattle.wasi_host.specs.HostCall.{RenameAt}
-use Rattle.wasi_host.specs.Refusal.{refusal, first_rule, naming_rows, loop_rows, moving_rows, renaming_rows}
+use Rattle.wasi_host.specs.Refusal.{refusal, first_rule, naming_rules, loop_rules, moving_rules, renaming_rules}
 use Rattle.wasi_host.specs.Answer.{unless}
 use Rattle.wasi_host.specs.Step.{found_under, with_nodes, name_moved_onto, moved_step, rename_step}
 use Rattle.wasi_host.specs.declared.errors.ErrorCode.{ErrorCode}
@@ -17,7 +17,7 @@ use Rattle.wasi_host.proofs.EntryLemmas.{nat_eq-refl}
 use Rattle.wasi_host.proofs.Refusals.{refused_before, left_behind}
 use Rattle.wasi_host.proofs.ValidSteps.{can_rename, not_below, replaces, is_named}
 use Rattle.wasi_tree.specs.Move.{IsMove}
-use Rattle.wasi_tree.specs.TouchedTree.{Touched, AnsweredByTable, RefusedByTable}
+use Rattle.wasi_tree.specs.TouchedTree.{Touched, AnsweredByRules, RefusedByRules}
 use Rattle.wasi_tree.proofs.KeptLemmas.{named_there, named_bare}
 use Rattle.wasi_tree.proofs.LinkLemmas.{with_nodes-append}
 use Rattle.wasi_tree.proofs.WayLemmas.{below_itself}
@@ -25,52 +25,52 @@ use Rattle.wasi_tree.proofs.WayLemmas.{below_itself}
 -- ---- the rows
 
 pub naming_refused : (t : Tree) (old : ℕ) (old_name : List ℕ) (new : ℕ) (new_name : List ℕ) (requires_dir : Bool)
-    {code : ErrorCode} → first_rule (naming_rows t old old_name new new_name requires_dir) ≡ Some code
+    {code : ErrorCode} → first_rule (naming_rules t old old_name new new_name requires_dir) ≡ Some code
     → refusal t (RenameAt old old_name new new_name requires_dir) ≡ Some code
 unfolding refusal
 naming_refused t old old_name new new_name requires_dir refused =
-    refused_before (naming_rows t old old_name new new_name requires_dir)
-    (renaming_rows t old new (child t old old_name) (child t new new_name)) refused
+    refused_before (naming_rules t old old_name new new_name requires_dir)
+    (renaming_rules t old new (child t old old_name) (child t new new_name)) refused
 
 -- the rows for the names don't refuse, and this is what the names hold
 pub record Holds (t : Tree) (old : ℕ) (old_name : List ℕ) (new : ℕ) (new_name : List ℕ) (requires_dir : Bool) (n : ℕ)
     (there : Option ℕ) : Type 0 where
-  pub free : first_rule (naming_rows t old old_name new new_name requires_dir) ≡ None
+  pub free : first_rule (naming_rules t old old_name new new_name requires_dir) ≡ None
   pub found : child t old old_name ≡ Some n
   pub onto : child t new new_name ≡ there
 
 module _ {t : Tree} {old new n : ℕ} {old_name new_name : List ℕ} {requires_dir : Bool} {there : Option ℕ}
     (are : Holds t old old_name new new_name requires_dir n there) where
-  later : refusal t (RenameAt old old_name new new_name requires_dir) ≡ first_rule (renaming_rows t old new (Some n) there)
+  later : refusal t (RenameAt old old_name new new_name requires_dir) ≡ first_rule (renaming_rules t old new (Some n) there)
   unfolding refusal
   later =
-      left_behind (naming_rows t old old_name new new_name requires_dir)
-      (renaming_rows t old new (child t old old_name) (child t new new_name)) are.free
-      ∙ (λ i. first_rule (renaming_rows t old new (are.found i) (are.onto i)))
+      left_behind (naming_rules t old old_name new new_name requires_dir)
+      (renaming_rules t old new (child t old old_name) (child t new new_name)) are.free
+      ∙ (λ i. first_rule (renaming_rules t old new (are.found i) (are.onto i)))
 
-  pub loop_refused : {code : ErrorCode} → first_rule (loop_rows t old new (Some n) there) ≡ Some code
+  pub loop_refused : {code : ErrorCode} → first_rule (loop_rules t old new (Some n) there) ≡ Some code
       → refusal t (RenameAt old old_name new new_name requires_dir) ≡ Some code
   loop_refused refused =
       later
-      ∙ refused_before (loop_rows t old new (Some n) there)
-      (cond (hold_one (Some n) there) [] (moving_rows t old new (Some n) there)) refused
+      ∙ refused_before (loop_rules t old new (Some n) there)
+      (cond (hold_one (Some n) there) [] (moving_rules t old new (Some n) there)) refused
 
-  module _ (free : first_rule (loop_rows t old new (Some n) there) ≡ None) where
+  module _ (free : first_rule (loop_rules t old new (Some n) there) ≡ None) where
     behind : refusal t (RenameAt old old_name new new_name requires_dir)
-        ≡ first_rule (cond (hold_one (Some n) there) [] (moving_rows t old new (Some n) there))
+        ≡ first_rule (cond (hold_one (Some n) there) [] (moving_rules t old new (Some n) there))
     behind =
         later
-        ∙ left_behind (loop_rows t old new (Some n) there)
-        (cond (hold_one (Some n) there) [] (moving_rows t old new (Some n) there)) free
+        ∙ left_behind (loop_rules t old new (Some n) there)
+        (cond (hold_one (Some n) there) [] (moving_rules t old new (Some n) there)) free
 
     pub onto_itself : hold_one (Some n) there ≡ true → refusal t (RenameAt old old_name new new_name requires_dir) ≡ None
     onto_itself same =
-        behind ∙ ap (λ one. first_rule (cond one [] (moving_rows t old new (Some n) there))) same
+        behind ∙ ap (λ one. first_rule (cond one [] (moving_rules t old new (Some n) there))) same
 
     pub moving_refuses : hold_one (Some n) there ≡ false
         → refusal t (RenameAt old old_name new new_name requires_dir)
-        ≡ first_rule (moving_rows t old new (Some n) there)
-    moving_refuses other = behind ∙ ap (λ one. first_rule (cond one [] (moving_rows t old new (Some n) there))) other
+        ≡ first_rule (moving_rules t old new (Some n) there)
+    moving_refuses other = behind ∙ ap (λ one. first_rule (cond one [] (moving_rules t old new (Some n) there))) other
 
 -- two names that hold different nodes
 not_one : (n : ℕ) (there : Option ℕ) → hold_one (Some n) there ≡ false → there ≢ Some n
@@ -98,8 +98,8 @@ module _ {t : Tree} {old new n : ℕ} {old_name new_name : List ℕ} {requires_d
 -- ---- what the rows say
 
 pub record Free (t : Tree) (old new n : ℕ) (there : Option ℕ) : Type 0 where
-  pub loops : first_rule (loop_rows t old new (Some n) there) ≡ None
-  pub moves : first_rule (moving_rows t old new (Some n) there) ≡ None
+  pub loops : first_rule (loop_rules t old new (Some n) there) ≡ None
+  pub moves : first_rule (moving_rules t old new (Some n) there) ≡ None
   pub other : hold_one (Some n) there ≡ false
 
 module _ {t : Tree} {old new n : ℕ} {old_name new_name : List ℕ} {requires_dir : Bool} {there : Option ℕ}
@@ -111,7 +111,7 @@ module _ {t : Tree} {old new n : ℕ} {old_name new_name : List ℕ} {requires_d
   lost_apart m d q text onto directory holding plain same =
       named_bare t d q text (named_there t d text plain holding)
       (ap (λ k. len (names_of (node_at t k).content)) (sym same)
-      ∙ replaces t old new n m (ap (λ f. first_rule (moving_rows t old new (Some n) f)) (sym onto) ∙ free.moves)
+      ∙ replaces t old new n m (ap (λ f. first_rule (moving_rules t old new (Some n) f)) (sym onto) ∙ free.moves)
       (ap (λ k. is_directory (node_at t k).content) same ∙ directory))
 
   pub may_move : IsMove t old old_name new new_name n there
@@ -143,7 +143,7 @@ module _ {s u : Touched} (old : ℕ) (old_name : List ℕ) (new : ℕ) (new_name
     ≡ with_nodes (with_nodes s.touched (found_under s.tree old old_name)) (found_under s.tree new new_name)) where
   pub rename_refuses : {code : ErrorCode} → u.tree ≡ s.tree
       → refusal s.tree (RenameAt old old_name new new_name requires_dir) ≡ Some code
-      → RefusedByTable s u (RenameAt old old_name new new_name requires_dir) (Code code)
+      → RefusedByRules s u (RenameAt old old_name new new_name requires_dir) (Code code)
   rename_refuses tree refused = record {
     meant = ap (λ r. unless r tt) refused;
     tree = tree;
@@ -154,7 +154,7 @@ module _ {s u : Touched} (old : ℕ) (old_name : List ℕ) (new : ℕ) (new_name
 
   pub rename_answers : u.tree ≡ rename_step s.tree old old_name new new_name
       → refusal s.tree (RenameAt old old_name new new_name requires_dir) ≡ None
-      → AnsweredByTable s u (RenameAt old old_name new new_name requires_dir) tt
+      → AnsweredByRules s u (RenameAt old old_name new new_name requires_dir) tt
   rename_answers tree free = record {
     meant = ap (λ r. unless r tt) free;
     tree = tree;

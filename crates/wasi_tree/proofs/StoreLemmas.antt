@@ -6,7 +6,7 @@ use Rattle.wasi_paths.specs.Text.{is_dot_text}
 use Rattle.wasi_host.specs.Options.{Options, are_refused}
 use Rattle.wasi_host.specs.Tree.{Tree, Node, Content, File, Directory, Link, node_at, next_of, stray, child, names_of, text_of, is_file, is_directory, is_link}
 use Rattle.wasi_host.specs.HostCall.{OpenAt, StatAt, ReadLinkAt}
-use Rattle.wasi_host.specs.Refusal.{refusal, first_rule, name_rows}
+use Rattle.wasi_host.specs.Refusal.{refusal, first_rule, name_rules}
 use Rattle.wasi_host.specs.Step.{is_cut, bytes_put, write_step, times_set, times_set_if, times_step}
 use Rattle.wasi_host.specs.declared.errors.ErrorCode.{ErrorCode}
 use Rattle.wasi_host.specs.declared.errors.ErrorCode.TheVariants as codes
@@ -16,7 +16,7 @@ use Rattle.wasi_host.specs.Answer.{metadata_of, metadata_from, unless, reached, 
 use Rattle.wasi_tree.specs.Sound.{IsSoundNode}
 use Rattle.wasi_tree.proofs.NameLemmas.{get-no_names}
 use Rattle.wasi_tree.proofs.NamedLemmas.{length-named}
-use Rattle.wasi_tree.proofs.RowLemmas.{next-rows}
+use Rattle.wasi_tree.proofs.InodeLemmas.{next-inodes}
 
 -- a number out of range is no directory's
 pub node-past : (t : Tree) (n : ℕ) → next_of t ≤ n
@@ -54,7 +54,7 @@ child_below count node name sound = if_some (get (names_of node.content) name) (
 
 -- a row for the name refuses an open
 pub open_refused : (t : Tree) (d : ℕ) (name : List ℕ) (o : Options) (code : ErrorCode)
-    → is_directory (node_at t d).content ≡ true → are_refused o ≡ false → first_rule (name_rows t d name) ≡ Some code
+    → is_directory (node_at t d).content ≡ true → are_refused o ≡ false → first_rule (name_rules t d name) ≡ Some code
     → refusal t (OpenAt d name o) ≡ Some code
 unfolding refusal
 open_refused t d name o code directory accepted name_refused = grind (arith)
@@ -129,4 +129,4 @@ unfolding write_step
 write_some t n offset [] some = absurd (omega arith)
 write_some t n offset (byte ∷ bytes) some = refl
 
-pub ruleset store_rules = (next-rows, length-named, node-past, child_is, child_dot, no_child, child_below, open_refused, metadata_is)
+pub ruleset store_rules = (next-inodes, length-named, node-past, child_is, child_dot, no_child, child_below, open_refused, metadata_is)

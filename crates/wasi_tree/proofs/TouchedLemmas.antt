@@ -17,7 +17,7 @@ use Rattle.wasi_host.proofs.Changes.{node_at-made, next_of-made, directory_withi
 use Rattle.wasi_host.proofs.ValidSteps.{can_open}
 use Rattle.wasi_tree.specs.Sound.{NodesStay}
 use Rattle.wasi_tree.proofs.LinkLemmas.{with_nodes-append}
-use Rattle.wasi_tree.specs.TouchedTree.{Touched, AnsweredByTable}
+use Rattle.wasi_tree.specs.TouchedTree.{Touched, AnsweredByRules}
 
 -- what is held stays held
 pub held_stays : {t u : Tree} {held : OpenHandle} → NodesStay t u → IsHeld t held → IsHeld u held
@@ -86,7 +86,7 @@ comes_to t d found = (d ∷ option_to_list found) ++ cond (is_none found) (next_
 module _ {s u : Touched} {d : ℕ} {name : List ℕ} {o : Options} (free : IsFree s.tree d name o) where
   opens : (found : Option ℕ) → child s.tree d name ≡ found → u.tree ≡ opened_step s.tree d name o found
       → u.touched ≡ with_nodes s.touched (comes_to s.tree d found)
-      → AnsweredByTable s u (OpenAt d name o) (handle_of s.tree o found)
+      → AnsweredByRules s u (OpenAt d name o) (handle_of s.tree o found)
   unfolding reached open_step handle_of comes_to
   opens found is tree touched = record {
     meant =
@@ -99,13 +99,13 @@ module _ {s u : Touched} {d : ℕ} {name : List ℕ} {o : Options} (free : IsFre
   pub opens_found : (n : ℕ) → child s.tree d name ≡ Some n
       → u.tree ≡ cond (is_cut o (node_at s.tree n).content) (file_cut s.tree n) s.tree
       → u.touched ≡ with_nodes s.touched (d ∷ n ∷ [])
-      → AnsweredByTable s u (OpenAt d name o) (record { node = n; mode = access_of o })
+      → AnsweredByRules s u (OpenAt d name o) (record { node = n; mode = access_of o })
   unfolding handle_of comes_to
   opens_found n is tree touched = opens (Some n) is tree touched
 
   pub opens_made : child s.tree d name ≡ None → u.tree ≡ file_made s.tree d name
       → u.touched ≡ with_nodes s.touched (d ∷ next_of s.tree ∷ [])
-      → AnsweredByTable s u (OpenAt d name o) (record { node = next_of s.tree; mode = access_of o })
+      → AnsweredByRules s u (OpenAt d name o) (record { node = next_of s.tree; mode = access_of o })
   unfolding handle_of comes_to
   opens_made is tree touched = opens None is tree touched
 
@@ -117,12 +117,12 @@ none_of (Some x) never = absurd (never x refl)
 -- ---- a look at a node
 
 pub stats : (s u : Touched) (n : ℕ) (metadata : Metadata) → metadata ≡ metadata_of s.tree n → u.tree ≡ s.tree
-    → u.touched ≡ insert s.touched n → AnsweredByTable s u (Stat n) metadata
+    → u.touched ≡ insert s.touched n → AnsweredByRules s u (Stat n) metadata
 unfolding refusal
 stats s u n metadata is tree touched = record { meant = ap Ok (sym is); tree = tree; touched = touched }
 
 pub sets_times : (s u : Touched) (n : ℕ) (atime mtime : Option SystemTime) → u.tree ≡ times_set s.tree n atime mtime
-    → u.touched ≡ insert s.touched n → AnsweredByTable s u (SetTimes n atime mtime) tt
+    → u.touched ≡ insert s.touched n → AnsweredByRules s u (SetTimes n atime mtime) tt
 unfolding refusal
 sets_times s u n atime mtime tree touched = record { meant = refl; tree = tree; touched = touched }
 

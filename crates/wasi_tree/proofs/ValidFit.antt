@@ -21,11 +21,11 @@ use Rattle.wasi_host.specs.ValidTree.{names_for, name_count, Reached, IsEntry, I
 use Rattle.wasi_host.specs.ValidTree as valid
 use Rattle.wasi_host.specs.declared.limits.TheConstants.{FILE_MAX, LINK_MAX}
 use Rattle.wasi_host.proofs.EntryLemmas.{times, numbers, find_in, entries-no_names, both_hold}
-use Rattle.wasi_tree.specs.Given.{Given, given_entries, entry_count, content_from, node_from, nodes_from, tree_of, content_given, given_of}
-use Rattle.wasi_tree.specs.GivenTests.{is_dir_content, are_distinct, starts_with_directory}
+use Rattle.wasi_tree.specs.NodeData.{NodeData, data_entries, entry_count, content_from, node_from, nodes_from, tree_of, data_of_content, data_of_node}
+use Rattle.wasi_tree.specs.NodeDataTests.{is_dir_content, are_distinct, starts_with_directory}
 use Rattle.wasi_tree.specs.WellFormed.{is_fit_entry, entries_held, entries_at, IsFound, at_zero, by_entry, HasPlace, IsFitContent, IsFit, AreFit}
 use Rattle.wasi_tree.proofs.CountLemmas.{times-numbers}
-use Rattle.wasi_tree.proofs.GivenNames.{texts}
+use Rattle.wasi_tree.proofs.NodeDataNames.{texts}
 
 -- ---- names, in order
 
@@ -72,59 +72,59 @@ stands_at name n (e ∷ es) is =
 
 -- ---- nodes, as a list gives them
 
-entries_given : (content : Content) → given_entries (content_given content) ≡ maps.entries (names_of content)
-entries_given (File bytes links) = sym entries-no_names
-entries_given (Directory names gone) = refl
-entries_given (Link text links) = sym entries-no_names
+entries_of_data : (content : Content) → data_entries (data_of_content content) ≡ maps.entries (names_of content)
+entries_of_data (File bytes links) = sym entries-no_names
+entries_of_data (Directory names gone) = refl
+entries_of_data (Link text links) = sym entries-no_names
 
-count_listed : (n : ℕ) (nodes : List Node) → entry_count n (map given_of nodes) ≡ sum_by (names_for n) nodes
+count_listed : (n : ℕ) (nodes : List Node) → entry_count n (map data_of_node nodes) ≡ sum_by (names_for n) nodes
 count_listed n [] = refl
 count_listed n (x ∷ xs) =
-    sum_by-cons (λ (g : Given). count_by (λ e. nat_eq e.1 n) (given_entries g.content)) (given_of x) (map given_of xs)
-    ∙ ap (λ m. m + entry_count n (map given_of xs)) (times-numbers n (given_entries (content_given x.content))
-    ∙ ap (λ es. times n (numbers es)) (entries_given x.content))
+    sum_by-cons (λ (g : NodeData). count_by (λ e. nat_eq e.1 n) (data_entries g.content)) (data_of_node x) (map data_of_node xs)
+    ∙ ap (λ m. m + entry_count n (map data_of_node xs)) (times-numbers n (data_entries (data_of_content x.content))
+    ∙ ap (λ es. times n (numbers es)) (entries_of_data x.content))
     ∙ ap (λ m. names_for n x + m) (count_listed n xs) ∙ sym (sum_by-cons (names_for n) x xs)
 
 entries_listed : (nodes : List Node) (d : ℕ)
-    → entries_held (slice_get (map given_of nodes) d) ≡ maps.entries (names_of (slice_index_or nodes d stray).content)
+    → entries_held (slice_get (map data_of_node nodes) d) ≡ maps.entries (names_of (slice_index_or nodes d stray).content)
 entries_listed [] d = sym entries-no_names
-entries_listed (x ∷ xs) zero = entries_given x.content
+entries_listed (x ∷ xs) zero = entries_of_data x.content
 entries_listed (x ∷ xs) (suc d) = entries_listed xs d
 
 -- what a list gives at a number is a node of the tree
-listed_at : (nodes : List Node) (n : ℕ) (g : Given) → slice_get (map given_of nodes) n ≡ Some g
-    → (n < length nodes) × (given_of (slice_index_or nodes n stray) ≡ g)
+listed_at : (nodes : List Node) (n : ℕ) (g : NodeData) → slice_get (map data_of_node nodes) n ≡ Some g
+    → (n < length nodes) × (data_of_node (slice_index_or nodes n stray) ≡ g)
 listed_at [] n g at = absurd (cc)
 listed_at (x ∷ xs) zero g at = (omega arith, (cc))
 listed_at (x ∷ xs) (suc n) g at = let later = listed_at xs n g at in (omega (arith, later.0), later.1)
 
-directory_given : (content : Content) → is_dir_content (content_given content) ≡ is_directory content
-directory_given (File bytes links) = refl
-directory_given (Directory names gone) = refl
-directory_given (Link text links) = refl
+directory_of_data : (content : Content) → is_dir_content (data_of_content content) ≡ is_directory content
+directory_of_data (File bytes links) = refl
+directory_of_data (Directory names gone) = refl
+directory_of_data (Link text links) = refl
 
 starts_listed : (nodes : List Node) → is_directory (slice_index_or nodes 0 stray).content ≡ true
-    → starts_with_directory (map given_of nodes) ≡ true
+    → starts_with_directory (map data_of_node nodes) ≡ true
 starts_listed [] is = absurd (cc)
-starts_listed (x ∷ xs) is = directory_given x.content ∙ is
+starts_listed (x ∷ xs) is = directory_of_data x.content ∙ is
 
 -- nodes that are the tree's one by one
-nodes_again : (all : List Given) (k : ℕ) (nodes : List Node)
-    → ((i : ℕ) → i < length nodes → node_from all (k + i) (given_of (slice_index_or nodes i stray)) ≡ slice_index_or nodes i stray)
-    → nodes_from all k (map given_of nodes) ≡ nodes
+nodes_again : (all : List NodeData) (k : ℕ) (nodes : List Node)
+    → ((i : ℕ) → i < length nodes → node_from all (k + i) (data_of_node (slice_index_or nodes i stray)) ≡ slice_index_or nodes i stray)
+    → nodes_from all k (map data_of_node nodes) ≡ nodes
 nodes_again all k [] same = refl
 nodes_again all k (x ∷ xs) same =
-    let first : node_from all k (given_of x) ≡ x = ap (λ j. node_from all j (given_of x)) (sym (add-zero k)) ∙ same 0 (omega arith) in
-    let rest : nodes_from all (k + 1) (map given_of xs) ≡ xs =
+    let first : node_from all k (data_of_node x) ≡ x = ap (λ j. node_from all j (data_of_node x)) (sym (add-zero k)) ∙ same 0 (omega arith) in
+    let rest : nodes_from all (k + 1) (map data_of_node xs) ≡ xs =
     nodes_again all (k + 1) xs (λ i short.
-    ap (λ j. node_from all j (given_of (slice_index_or xs i stray))) (omega arith) ∙ same (suc i) (omega (arith, short))) in
+    ap (λ j. node_from all j (data_of_node (slice_index_or xs i stray))) (omega arith) ∙ same (suc i) (omega (arith, short))) in
     λ i. first i ∷ rest i
 
 -- ---- of a valid tree
 
 module _ (t : Tree) (valid_t : IsValidTree t) where
-  abbrev all : List Given
-  all = map given_of t.nodes
+  abbrev all : List NodeData
+  all = map data_of_node t.nodes
 
   count_is : (n : ℕ) → entry_count n all ≡ name_count t n
   count_is n = count_listed n t.nodes
@@ -145,7 +145,7 @@ module _ (t : Tree) (valid_t : IsValidTree t) where
   entries_fit [] are = refl
   entries_fit (e ∷ es) are =
       let first : IsEntry t e = are 0 e (omega arith) in
-      let within : nat_lt e.1 (length all) ≡ true = lt-ltb e.1 (length all) (omega (arith, length-map t.nodes given_of, first.within)) in
+      let within : nat_lt e.1 (length all) ≡ true = lt-ltb e.1 (length all) (omega (arith, length-map t.nodes data_of_node, first.within)) in
       rw (first.name, is_utf8-from_IsUtf8 e.0 first.utf8, within) (entries_fit es (λ i d short. are (suc i) d (omega (arith, short))))
 
   place_kept : (n : ℕ) (names : Names) (gone : Bool) → (node_at t n).content ≡ Directory names gone
@@ -160,7 +160,7 @@ module _ (t : Tree) (valid_t : IsValidTree t) where
   ]
 
   content_fit : (n : ℕ) (content : Content) → IsValidContent t n content → (node_at t n).content ≡ content
-      → IsFitContent t.limits all n (content_given content)
+      → IsFitContent t.limits all n (data_of_content content)
   content_fit n (File bytes links) v is = (rw (v.0, le-leb (length bytes) FILE_MAX v.1) refl, omega (arith, count_is n, v.2, v.3))
   content_fit n (Directory names gone) v is =
       (entries_fit (maps.entries names) v.0, rising_distinct (maps.entries names) (maps.entries_sorted names), place_kept n names gone is v.1)
@@ -169,7 +169,7 @@ module _ (t : Tree) (valid_t : IsValidTree t) where
     omega (arith, count_is n, v.4, v.5),
   )
 
-  node_fit : (n : ℕ) → n < next_of t → IsFit t.limits all n (given_of (node_at t n))
+  node_fit : (n : ℕ) → n < next_of t → IsFit t.limits all n (data_of_node (node_at t n))
   node_fit n short = (omega (arith, short, valid_t.numbers), content_fit n (node_at t n).content (valid_t.nodes n short) refl)
 
   pub nodes_fit : AreFit t.limits all
@@ -196,12 +196,12 @@ module _ (t : Tree) (valid_t : IsValidTree t) where
       ]
 
   content_again : (n : ℕ) (content : Content) → IsValidContent t n content → (node_at t n).content ≡ content
-      → content_from all n (content_given content) ≡ content
+      → content_from all n (data_of_content content) ≡ content
   content_again n (File bytes links) v is = ap (File bytes) (count_is n ∙ sym v.2)
   content_again n (Directory names gone) v is = λ i. Directory (made_again names i) (gone_again n names gone is v.1 i)
   content_again n (Link text links) v is = ap (Link text) (count_is n ∙ sym v.4)
 
-  node_again : (n : ℕ) → n < next_of t → node_from all n (given_of (node_at t n)) ≡ node_at t n
+  node_again : (n : ℕ) → n < next_of t → node_from all n (data_of_node (node_at t n)) ≡ node_at t n
   node_again n short =
       let content = content_again n (node_at t n).content (valid_t.nodes n short) refl in
       λ i. record (node_at t n) { content = content i }
@@ -210,5 +210,5 @@ module _ (t : Tree) (valid_t : IsValidTree t) where
   unfolding tree_of node_at
   tree_again =
       let nodes : nodes_from all 0 all ≡ t.nodes = nodes_again all 0 t.nodes (λ i short.
-      ap (λ j. node_from all j (given_of (node_at t i))) (omega arith) ∙ node_again i short) in
+      ap (λ j. node_from all j (data_of_node (node_at t i))) (omega arith) ∙ node_again i short) in
       λ i. record t { nodes = nodes i; worked = set.empty }

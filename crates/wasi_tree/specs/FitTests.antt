@@ -4,8 +4,8 @@ use Rattle.std.specs.Bool.{Decides}
 use Rattle.std.specs.List.{list_all}
 use Rattle.wasi_host.specs.declared.limits.Limits.{Limits}
 use Rattle.wasi_tree.specs.declared.node.NewEntry.{NewEntry}
-use Rattle.wasi_tree.specs.Given.{Given, GivenContent, file, directory, link, pair_of, given_entries}
-use Rattle.wasi_tree.specs.GivenTests.{are_distinct}
+use Rattle.wasi_tree.specs.NodeData.{NodeData, ContentData, file, directory, link, pair_of, data_entries}
+use Rattle.wasi_tree.specs.NodeDataTests.{are_distinct}
 use Rattle.wasi_tree.specs.WellFormed.{is_fit_file, is_fit_entry, is_fit_text, IsFound}
 use Rattle.wasi_tree.specs.declared.well_formed.Place.{Place}
 
@@ -14,11 +14,11 @@ abbrev pub entry_numbers : List NewEntry → List ℕ
 entry_numbers entries = map (λ e. e.1) (map pair_of entries)
 
 -- the numbers of the entries of one node
-abbrev pub content_numbers : GivenContent → List ℕ
-content_numbers content = map (λ e. e.1) (given_entries content)
+abbrev pub content_numbers : ContentData → List ℕ
+content_numbers content = map (λ e. e.1) (data_entries content)
 
 -- the numbers of all entries
-abbrev pub all_numbers : List Given → List ℕ
+abbrev pub all_numbers : List NodeData → List ℕ
 all_numbers [] = []
 all_numbers (g ∷ gs) = content_numbers g.content ++ all_numbers gs
 
@@ -48,7 +48,7 @@ pub record AreMarked (numbers : List ℕ) (marks : List Bool) (work : List ℕ) 
   pub balance : length work' + unmarked_count marks' ≡ length work + unmarked_count marks
 
 -- the marks tell which numbers are found from node 0
-pub record TellFound (nodes : List Given) (marks : List Bool) : Type 0 where
+pub record TellFound (nodes : List NodeData) (marks : List Bool) : Type 0 where
   pub len : length marks ≡ length nodes
   pub each : (n : ℕ) → n < length nodes → Decides (slice_index_or marks n false) (IsFound nodes n)
 
@@ -60,12 +60,12 @@ has_place place entries =
     || (nat_lt 0 place.number && nat_eq place.names 0 && nat_eq (length entries) 0)
 
 -- `IsFitContent`, by what is known of the number
-abbrev pub is_fit_content : Limits → ℕ → Place → GivenContent → Bool
+abbrev pub is_fit_content : Limits → ℕ → Place → ContentData → Bool
 is_fit_content limits count place (file bytes) = is_fit_file bytes && nat_le place.names limits.links
 is_fit_content limits count place (directory entries) =
     has_place place entries && list_all (is_fit_entry count) entries && are_distinct (map (λ e. e.0) entries)
 is_fit_content limits count place (link text) = is_fit_text text && nat_le place.names limits.links
 
 -- `IsFit`, by what is known of the number
-abbrev pub is_fit : Limits → ℕ → Place → Given → Bool
+abbrev pub is_fit : Limits → ℕ → Place → NodeData → Bool
 is_fit limits count place g = nat_lt place.number limits.nodes && is_fit_content limits count place g.content

@@ -6,7 +6,7 @@ use Rattle.std.specs.FinMap as maps
 use Rattle.std.specs.FinSet.{from_list}
 use Rattle.wasi_host.specs.Tree.{Tree, Nodes}
 use Rattle.wasi_host.specs.TreeCode.{tree_code, nodes_code}
-use Rattle.wasi_host.specs.HostLaws.{World, Handles}
+use Rattle.wasi_host.specs.HostLaws.{HostModel, Handles}
 use Rattle.wasi_host.specs.contracts.open_handle.OpenHandle as held
 use Rattle.wasi_host.specs.contracts.lookup.Lookup as lookup
 use Rattle.wasi_host.specs.declared.open_handle.AccessMode.TheVariants.{PathOnly}
@@ -51,5 +51,5 @@ or_nothing (Some held) = held
 unfoldable pub held_in : HeldMap → ℕ → OpenHandle
 held_in handles h = or_nothing (maps.get handles h)
 
-abbrev pub world_of : MemState → World
-world_of m = record { tree = m.tree; held = held_in m.handles; touched = m.touched }
+abbrev pub model_of : MemState → HostModel
+model_of m = record { tree = m.tree; held = held_in m.handles; touched = m.touched }

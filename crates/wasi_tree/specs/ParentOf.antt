@@ -2,7 +2,7 @@
 use Rattle.std.specs.Prelude.{◌≡◌, ◌⊎◌, ℕ, zero, suc, ◌<◌, Bool, true, false, ◌||◌, nat_eq, List, map, length, slice_index_or, slice_set, Option, Some, None, Contains}
 use Rattle.std.specs.FinMap as maps
 use Rattle.wasi_host.specs.Tree.{Tree, node_at, next_of, names_of, is_directory}
-use Rattle.wasi_tree.specs.Given.{Given}
+use Rattle.wasi_tree.specs.NodeData.{NodeData}
 use Rattle.wasi_tree.specs.WellFormed.{entries_at}
 
 -- the directory of a node; none of a number out of range
@@ -50,11 +50,11 @@ pub record ArePut (d : ℕ) (numbers : List ℕ) (old new : List (Option ℕ)) :
   pub from : (n : ℕ) → (parent_of new n ≡ parent_of old n) ⊎ (Contains numbers n × (parent_of new n ≡ Some d))
 
 -- the numbers of the entries of a node
-abbrev pub numbers_at : List Given → ℕ → List ℕ
+abbrev pub numbers_at : List NodeData → ℕ → List ℕ
 numbers_at nodes d = map (λ e. e.1) (entries_at nodes d)
 
 -- each number that entries give stands in a directory whose entries give it
-pub record TellParents (nodes : List Given) (parents : List (Option ℕ)) : Type 0 where
+pub record TellParents (nodes : List NodeData) (parents : List (Option ℕ)) : Type 0 where
   pub len : length parents ≡ length nodes
   pub each : (d n : ℕ) → Contains (numbers_at nodes d) n → n < length nodes → (e : ℕ) × (parent_of parents n ≡ Some e)
   pub from : (d n : ℕ) → parent_of parents n ≡ Some d → Contains (numbers_at nodes d) n

@@ -8,16 +8,16 @@ use Rattle.wasi_tree_index.specs.DirEntryKeys.{AllNames, names_at}
 use Rattle.wasi_tree.specs.Sound.{IsSound}
 use Rattle.wasi_tree.specs.declared.inode.Inode.{Inode}
 use Rattle.wasi_tree.specs.declared.inode.InodeContent.{InodeContent}
-use Rattle.wasi_tree.specs.declared.inode.InodeContent.TheVariants as rows
+use Rattle.wasi_tree.specs.declared.inode.InodeContent.TheVariants as inodes
 
 -- what a row says of its node: all but the names of a directory
 abbrev pub stored_content : InodeContent → Content
-stored_content (rows.File bytes links) = File bytes.items links
-stored_content (rows.Dir gone) = Directory maps.empty gone
-stored_content (rows.Link text links) = Link (string_bytes text) links
+stored_content (inodes.File bytes links) = File bytes.items links
+stored_content (inodes.Dir gone) = Directory maps.empty gone
+stored_content (inodes.Link text links) = Link (string_bytes text) links
 
 abbrev pub stored_node : Inode → Node
-stored_node row = record { content = stored_content row.content; bits = row.bits; atime = row.atime; mtime = row.mtime; btime = row.btime }
+stored_node inode = record { content = stored_content inode.content; bits = inode.bits; atime = inode.atime; mtime = inode.mtime; btime = inode.btime }
 
 abbrev pub named_content : Names → Content → Content
 named_content names (File bytes links) = File bytes links
@@ -35,16 +35,16 @@ named_from m k (node ∷ nodes) = with_names (names_at m k) node ∷ named_from 
 
 -- the tree of these rows and names, where these nodes have been worked on
 abbrev pub stored_tree : List Inode → AllNames → Limits → Nodes → Tree
-stored_tree rows m limits worked = record { nodes = named_from m 0 (map stored_node rows); limits = limits; worked = worked }
+stored_tree inodes m limits worked = record { nodes = named_from m 0 (map stored_node inodes); limits = limits; worked = worked }
 
 -- no names are those of a number from this one on
 pub record AreBelow (m : AllNames) (k : ℕ) : Type 0 where
   pub none : (d : ℕ) → k ≤ d → names_at m d ≡ maps.empty
 
 -- the tree of the rows and names is sound, and no name is one of a directory that isn't there
-pub record IsStored (rows : List Inode) (m : AllNames) (limits : Limits) (worked : Nodes) (marks : ℕ) : Type 0 where
-  pub sound : IsSound (stored_tree rows m limits worked) marks
-  pub below : AreBelow m (length rows)
+pub record IsStored (inodes : List Inode) (m : AllNames) (limits : Limits) (worked : Nodes) (marks : ℕ) : Type 0 where
+  pub sound : IsSound (stored_tree inodes m limits worked) marks
+  pub below : AreBelow m (length inodes)
 
 -- the names of all directories but one are as before
 pub record OtherNamesStay (d : ℕ) (m n : AllNames) : Type 0 where

@@ -44,7 +44,7 @@ abbrev pub Grows : (ℕ → Type 0) → (ℕ → Type 0) → Type 0
 Grows P Q = (n : ℕ) → P n → Q n
 
 -- The answer is the table's, the step was made, and the nodes that the call comes to or made are touched.
-pub record AnsweredByTable (s u : Touched) (call : HostCall) (answer : HostAnswer call) : Type 0 where
+pub record AnsweredByRules (s u : Touched) (call : HostCall) (answer : HostAnswer call) : Type 0 where
   pub meant : host_answer s.tree call ≡ Ok answer
   pub tree : u.tree ≡ step s.tree call
   pub touched : u.touched ≡ with_nodes s.touched (found_by s.tree call ++ made_by s.tree call)
@@ -60,12 +60,12 @@ TouchedErr old new found Memory = (new ≡ old) ⊎ (new ≡ with_nodes old foun
 TouchedErr old new found (Code code) = new ≡ with_nodes old found
 
 -- The tree stays, and the nodes that the call comes to are touched.
-pub record RefusedByTable (s u : Touched) (call : HostCall) (error : HostError) : Type 0 where
+pub record RefusedByRules (s u : Touched) (call : HostCall) (error : HostError) : Type 0 where
   pub meant : MeansCode (host_answer s.tree call) error
   pub tree : u.tree ≡ s.tree
   pub touched : TouchedErr s.touched u.touched (found_by s.tree call) error
 
-abbrev pub FollowsTable : {A : Type 0} → Touched → Touched → (call : HostCall) → (A → HostAnswer call) → Result A HostError
+abbrev pub FollowsRules : {A : Type 0} → Touched → Touched → (call : HostCall) → (A → HostAnswer call) → Result A HostError
     → Type 0
-FollowsTable s u call shown (Ok a) = AnsweredByTable s u call (shown a)
-FollowsTable s u call shown (Err error) = RefusedByTable s u call error
+FollowsRules s u call shown (Ok a) = AnsweredByRules s u call (shown a)
+FollowsRules s u call shown (Err error) = RefusedByRules s u call error

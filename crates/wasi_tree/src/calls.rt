@@ -14,7 +14,7 @@ ghost use Rattle.wasi_host.specs.Step.{file_cut, found_under, is_cut, times_step
 ghost use Rattle.wasi_host.specs.Time.{HasTimes};
 ghost use Rattle.wasi_tree.specs.NameLookup.{IsLooked, looked_at};
 ghost use Rattle.wasi_tree.specs.Sound.{NodesStay, IsSoundText};
-ghost use Rattle.wasi_tree.specs.TouchedTree.{FollowsTable, Grows};
+ghost use Rattle.wasi_tree.specs.TouchedTree.{FollowsRules, Grows};
 
 use crate::bytes::{get_at, put_at, put_behind, put_size};
 use crate::inode::Inode;
@@ -128,7 +128,7 @@ pub fn open_at<S: NodeStore>(
 ) -> Result<OpenHandle, HostError>
     requires within { directory < next_of (S.seen store.old).tree }
     requires at { S.HasRoom store.old directory }
-    ensures does { FollowsTable (S.seen store.old) (S.seen store.new) (OpenAt directory (name_bytes name.entry) options.now)
+    ensures does { FollowsRules (S.seen store.old) (S.seen store.new) (OpenAt directory (name_bytes name.entry) options.now)
         (λ held. held) result }
     ensures held { IfOk result (IsHeld (S.seen store.new).tree) }
     ensures given { IfOk result (λ held. S.HasRoom store.new held.node) }
@@ -177,7 +177,7 @@ pub fn stat_at<S: NodeStore>(
 ) -> Result<Metadata, HostError>
     requires within { directory < next_of (S.seen store.old).tree }
     requires at { S.HasRoom store.old directory }
-    ensures does { FollowsTable (S.seen store.old) (S.seen store.new) (StatAt directory (name_bytes name.entry))
+    ensures does { FollowsRules (S.seen store.old) (S.seen store.new) (StatAt directory (name_bytes name.entry))
         (λ metadata. metadata) result }
     ensures times { IfOk result HasTimes }
     ensures tree { (S.seen store.new).tree ≡ (S.seen store.old).tree }
@@ -196,7 +196,7 @@ pub fn read_link_at<S: NodeStore>(
 ) -> Result<String, HostError>
     requires within { directory < next_of (S.seen store.old).tree }
     requires at { S.HasRoom store.old directory }
-    ensures does { FollowsTable (S.seen store.old) (S.seen store.new) (ReadLinkAt directory (name_bytes name.entry))
+    ensures does { FollowsRules (S.seen store.old) (S.seen store.new) (ReadLinkAt directory (name_bytes name.entry))
         (λ text. string_bytes text) result }
     ensures text { IfOk result (λ text. IsSoundText (string_bytes text)) }
     ensures tree { (S.seen store.new).tree ≡ (S.seen store.old).tree }
@@ -215,7 +215,7 @@ pub fn make_dir_at<S: NodeStore>(
 ) -> Result<(), HostError>
     requires within { directory < next_of (S.seen store.old).tree }
     requires at { S.HasRoom store.old directory }
-    ensures does { FollowsTable (S.seen store.old) (S.seen store.new) (MakeDirAt directory (name_bytes name.entry))
+    ensures does { FollowsRules (S.seen store.old) (S.seen store.new) (MakeDirAt directory (name_bytes name.entry))
         (λ unit. unit) result }
     ensures stays { NodesStay (S.seen store.old).tree (S.seen store.new).tree }
     ensures room { Grows (S.HasRoom store.old) (S.HasRoom store.new) }
@@ -237,7 +237,7 @@ pub fn symlink_at<S: NodeStore>(
 ) -> Result<(), HostError>
     requires within { directory < next_of (S.seen store.old).tree }
     requires at { S.HasRoom store.old directory }
-    ensures does { FollowsTable (S.seen store.old) (S.seen store.new)
+    ensures does { FollowsRules (S.seen store.old) (S.seen store.new)
         (SymlinkAt target.now directory (name_bytes name.entry)) (λ unit. unit) result }
     ensures stays { NodesStay (S.seen store.old).tree (S.seen store.new).tree }
     ensures room { Grows (S.HasRoom store.old) (S.HasRoom store.new) }
@@ -263,7 +263,7 @@ pub fn link_at<S: NodeStore>(
     requires from { S.HasRoom store.old old }
     requires new { new < next_of (S.seen store.old).tree }
     requires to { S.HasRoom store.old new }
-    ensures does { FollowsTable (S.seen store.old) (S.seen store.new)
+    ensures does { FollowsRules (S.seen store.old) (S.seen store.new)
         (LinkAt old (name_bytes old_name.entry) new (name_bytes new_name.entry)) (λ unit. unit) result }
     ensures stays { NodesStay (S.seen store.old).tree (S.seen store.new).tree }
     ensures room { Grows (S.HasRoom store.old) (S.HasRoom store.new) }
@@ -287,7 +287,7 @@ pub fn rename_at<S: NodeStore>(
     requires from { S.HasRoom store.old old }
     requires new { new < next_of (S.seen store.old).tree }
     requires to { S.HasRoom store.old new }
-    ensures does { FollowsTable (S.seen store.old) (S.seen store.new)
+    ensures does { FollowsRules (S.seen store.old) (S.seen store.new)
         (RenameAt old (name_bytes old_name.entry) new (name_bytes new_name.entry) requires_dir) (λ unit. unit) result }
     ensures stays { NodesStay (S.seen store.old).tree (S.seen store.new).tree }
     ensures room { Grows (S.HasRoom store.old) (S.HasRoom store.new) }
@@ -308,7 +308,7 @@ pub fn unlink_at<S: NodeStore>(
 ) -> Result<(), HostError>
     requires within { directory < next_of (S.seen store.old).tree }
     requires at { S.HasRoom store.old directory }
-    ensures does { FollowsTable (S.seen store.old) (S.seen store.new) (UnlinkAt directory (name_bytes name.entry))
+    ensures does { FollowsRules (S.seen store.old) (S.seen store.new) (UnlinkAt directory (name_bytes name.entry))
         (λ unit. unit) result }
     ensures stays { NodesStay (S.seen store.old).tree (S.seen store.new).tree }
     ensures room { Grows (S.HasRoom store.old) (S.HasRoom store.new) }
@@ -327,7 +327,7 @@ pub fn remove_dir_at<S: NodeStore>(
 ) -> Result<(), HostError>
     requires within { directory < next_of (S.seen store.old).tree }
     requires at { S.HasRoom store.old directory }
-    ensures does { FollowsTable (S.seen store.old) (S.seen store.new) (RemoveDirAt directory (name_bytes name.entry))
+    ensures does { FollowsRules (S.seen store.old) (S.seen store.new) (RemoveDirAt directory (name_bytes name.entry))
         (λ unit. unit) result }
     ensures stays { NodesStay (S.seen store.old).tree (S.seen store.new).tree }
     ensures room { Grows (S.HasRoom store.old) (S.HasRoom store.new) }
@@ -348,7 +348,7 @@ pub fn times_at<S: NodeStore>(
 ) -> Result<(), HostError>
     requires within { directory < next_of (S.seen store.old).tree }
     requires at { S.HasRoom store.old directory }
-    ensures does { FollowsTable (S.seen store.old) (S.seen store.new)
+    ensures does { FollowsRules (S.seen store.old) (S.seen store.new)
         (TimesAt directory (name_bytes name.entry) atime mtime) (λ unit. unit) result }
     ensures stays { NodesStay (S.seen store.old).tree (S.seen store.new).tree }
     ensures room { Grows (S.HasRoom store.old) (S.HasRoom store.new) }
@@ -385,7 +385,7 @@ fn set_times_under<S: NodeStore>(
 pub fn access<S: NodeStore>(store: &mut S, directory: u64) -> Result<(), ErrorCode>
     requires within { directory < next_of (S.seen store.old).tree }
     requires at { S.HasRoom store.old directory }
-    ensures does { FollowsTable (S.seen store.old) (S.seen store.new) (Access directory) (λ unit. unit) (hosted result) }
+    ensures does { FollowsRules (S.seen store.old) (S.seen store.new) (Access directory) (λ unit. unit) (hosted result) }
     ensures tree { (S.seen store.new).tree ≡ (S.seen store.old).tree }
     ensures room { Grows (S.HasRoom store.old) (S.HasRoom store.new) }
 {
@@ -401,7 +401,7 @@ pub fn list<S: NodeStore>(
 ) -> Result<Vec<DirEntry>, HostError>
     requires within { directory.node < next_of (S.seen store.old).tree }
     requires at { S.HasRoom store.old directory.node }
-    ensures does { FollowsTable (S.seen store.old) (S.seen store.new) (ListDir directory)
+    ensures does { FollowsRules (S.seen store.old) (S.seen store.new) (ListDir directory)
         (λ entries. map entry_of entries.items) result }
     ensures names { IfOk result
         (λ entries. All (λ entry. IsTrue (is_entry_name entry.0)) (map entry_of entries.items)) }
@@ -416,7 +416,7 @@ pub fn list<S: NodeStore>(
 pub fn stat<S: NodeStore>(store: &mut S, node: u64) -> Metadata
     requires within { node < next_of (S.seen store.old).tree }
     requires at { S.HasRoom store.old node }
-    ensures does { FollowsTable (S.seen store.old) (S.seen store.new) (Stat node) (λ metadata. metadata) (Ok result) }
+    ensures does { FollowsRules (S.seen store.old) (S.seen store.new) (Stat node) (λ metadata. metadata) (Ok result) }
     ensures times { HasTimes result }
     ensures tree { (S.seen store.new).tree ≡ (S.seen store.old).tree }
     ensures room { Grows (S.HasRoom store.old) (S.HasRoom store.new) }
@@ -434,7 +434,7 @@ pub fn set_times<S: NodeStore>(
 )
     requires within { node < next_of (S.seen store.old).tree }
     requires at { S.HasRoom store.old node }
-    ensures does { FollowsTable (S.seen store.old) (S.seen store.new) (SetTimes node atime mtime) (λ unit. unit) answered }
+    ensures does { FollowsRules (S.seen store.old) (S.seen store.new) (SetTimes node atime mtime) (λ unit. unit) answered }
     ensures stays { NodesStay (S.seen store.old).tree (S.seen store.new).tree }
     ensures room { Grows (S.HasRoom store.old) (S.HasRoom store.new) }
 {
@@ -451,7 +451,7 @@ pub fn read_at<S: NodeStore>(
 ) -> Result<usize, ErrorCode>
     requires within { file.node < next_of (S.seen store.old).tree }
     requires at { S.HasRoom store.old file.node }
-    ensures does { FollowsTable (S.seen store.old) (S.seen store.new) (Pread file offset (length buf.old))
+    ensures does { FollowsRules (S.seen store.old) (S.seen store.new) (Pread file offset (length buf.old))
         (λ n. take n buf.new) (hosted result) }
     ensures fits { IfOk result (λ n. n ≤ length buf.old) }
     ensures offset { OnOk result (offset < 2 ^ 63) }
@@ -473,7 +473,7 @@ pub fn write_at<S: NodeStore>(
 ) -> Result<usize, HostError>
     requires within { file.node < next_of (S.seen store.old).tree }
     requires at { S.HasRoom store.old file.node }
-    ensures does { FollowsTable (S.seen store.old) (S.seen store.new) (Pwrite file offset piece.now) (λ n. n) result }
+    ensures does { FollowsRules (S.seen store.old) (S.seen store.new) (Pwrite file offset piece.now) (λ n. n) result }
     ensures all { IfOk result (λ n. n ≡ length piece.now) }
     ensures offset { OnOk result (offset < 2 ^ 63) }
     ensures stays { NodesStay (S.seen store.old).tree (S.seen store.new).tree }
@@ -491,7 +491,7 @@ pub fn append<S: NodeStore>(
 ) -> Result<usize, HostError>
     requires within { file.node < next_of (S.seen store.old).tree }
     requires at { S.HasRoom store.old file.node }
-    ensures does { FollowsTable (S.seen store.old) (S.seen store.new) (Append file piece.now) (λ n. n) result }
+    ensures does { FollowsRules (S.seen store.old) (S.seen store.new) (Append file piece.now) (λ n. n) result }
     ensures all { IfOk result (λ n. n ≡ length piece.now) }
     ensures stays { NodesStay (S.seen store.old).tree (S.seen store.new).tree }
     ensures room { Grows (S.HasRoom store.old) (S.HasRoom store.new) }
@@ -504,7 +504,7 @@ pub fn append<S: NodeStore>(
 pub fn set_size<S: NodeStore>(store: &mut S, file: OpenHandle, size: u64) -> Result<(), HostError>
     requires within { file.node < next_of (S.seen store.old).tree }
     requires at { S.HasRoom store.old file.node }
-    ensures does { FollowsTable (S.seen store.old) (S.seen store.new) (SetSize file size) (λ unit. unit) result }
+    ensures does { FollowsRules (S.seen store.old) (S.seen store.new) (SetSize file size) (λ unit. unit) result }
     ensures stays { NodesStay (S.seen store.old).tree (S.seen store.new).tree }
     ensures room { Grows (S.HasRoom store.old) (S.HasRoom store.new) }
 {
@@ -517,7 +517,7 @@ pub fn set_size<S: NodeStore>(store: &mut S, file: OpenHandle, size: u64) -> Res
 pub fn sync<S: NodeStore>(store: &mut S, node: u64)
     requires within { node < next_of (S.seen store.old).tree }
     requires at { S.HasRoom store.old node }
-    ensures does { FollowsTable (S.seen store.old) (S.seen store.new) (Sync node) (λ unit. unit) answered }
+    ensures does { FollowsRules (S.seen store.old) (S.seen store.new) (Sync node) (λ unit. unit) answered }
     ensures tree { (S.seen store.new).tree ≡ (S.seen store.old).tree }
     ensures room { Grows (S.HasRoom store.old) (S.HasRoom store.new) }
 {
@@ -529,7 +529,7 @@ pub fn sync<S: NodeStore>(store: &mut S, node: u64)
 pub fn advise<S: NodeStore>(store: &mut S, node: u64, offset: u64, len: u64, advice: Advice)
     requires within { node < next_of (S.seen store.old).tree }
     requires at { S.HasRoom store.old node }
-    ensures does { FollowsTable (S.seen store.old) (S.seen store.new) (Advise node offset len advice) (λ unit. unit) answered }
+    ensures does { FollowsRules (S.seen store.old) (S.seen store.new) (Advise node offset len advice) (λ unit. unit) answered }
     ensures tree { (S.seen store.new).tree ≡ (S.seen store.old).tree }
     ensures room { Grows (S.HasRoom store.old) (S.HasRoom store.new) }
 {
@@ -541,7 +541,7 @@ pub fn advise<S: NodeStore>(store: &mut S, node: u64, offset: u64, len: u64, adv
 pub fn flags<S: NodeStore>(store: &mut S, node: u64) -> SyncFlags
     requires within { node < next_of (S.seen store.old).tree }
     requires at { S.HasRoom store.old node }
-    ensures does { FollowsTable (S.seen store.old) (S.seen store.new) (Flags node) (λ flags. flags) (Ok result) }
+    ensures does { FollowsRules (S.seen store.old) (S.seen store.new) (Flags node) (λ flags. flags) (Ok result) }
     ensures tree { (S.seen store.new).tree ≡ (S.seen store.old).tree }
     ensures room { Grows (S.HasRoom store.old) (S.HasRoom store.new) }
 {

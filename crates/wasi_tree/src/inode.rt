@@ -5,7 +5,7 @@ ghost use Rattle.wasi_host.specs.Tree.{Names, names_of, is_directory, is_file, i
 ghost use Rattle.std.specs.String.{string_bytes};
 ghost use Rattle.wasi_host.specs.Step.{new_node, new_file, new_directory, new_link, other_bytes, with_piece, with_size, with_times, one_name_more, name_lost};
 ghost use Rattle.wasi_host.specs.Numbers.{largest_file};
-ghost use Rattle.wasi_tree.specs.Given.{Given, pair_of, given, given_content, given_of, content_given, entry_count, content_from, node_from};
+ghost use Rattle.wasi_tree.specs.NodeData.{NodeData, pair_of, node_data, content_data, data_of_node, data_of_content, entry_count, content_from, node_from};
 ghost use Rattle.wasi_tree.specs.Viewed.{Views, viewed_content};
 ghost use Rattle.wasi_tree_index.specs.DirEntryKeys.{names_at};
 ghost use Rattle.wasi_tree.specs.StoredTree.{stored_content, with_names, named_content, OtherNamesStay, with_first};
@@ -46,8 +46,8 @@ impl InodeContent {
         names: &mut NameIndex,
     ) -> Result<InodeContent, AllocError>
         requires { names_at names.old.names number ≡ maps.empty }
-        ensures content { IfOk result (λ made. (all : List Given) → entry_count number all ≡ links
-            → named_content (names_at names.new.names number) (stored_content made) ≡ content_from all number (given_content content)) }
+        ensures content { IfOk result (λ made. (all : List NodeData) → entry_count number all ≡ links
+            → named_content (names_at names.new.names number) (stored_content made) ≡ content_from all number (content_data content)) }
         ensures others { OtherNamesStay number names.old.names names.new.names }
     {
         match content {
@@ -65,7 +65,7 @@ impl InodeContent {
     /// The content as a list of nodes gives it, in memory of its own, where a directory has these names.
     fn to_new(&self, alloc: Global, names: EntryCursor<'_>) -> Result<NewContent, AllocError>
         ensures { IfOk result (λ content. (held : Names) → maps.entries held ≡ names.entry
-            → given_content content ≡ content_given (named_content held (stored_content self.now))) }
+            → content_data content ≡ data_of_content (named_content held (stored_content self.now))) }
     {
         match self {
             InodeContent::File { bytes, .. } => {
@@ -81,7 +81,7 @@ impl InodeContent {
     /// The content, lent without a directory's names.
     fn view(&self) -> ContentView<'_>
         ensures { (names : Names) → let content = named_content names (stored_content self.now) in
-            viewed_content (maps.entries (names_of content)) result ≡ content_given content }
+            viewed_content (maps.entries (names_of content)) result ≡ data_of_content content }
     {
         match self {
             InodeContent::File { bytes, .. } => ContentView::File(bytes.as_slice()),
@@ -261,8 +261,8 @@ impl Inode {
         names: &mut NameIndex,
     ) -> Result<Inode, AllocError>
         requires { names_at names.old.names number ≡ maps.empty }
-        ensures row { IfOk result (λ row. (all : List Given) → entry_count number all ≡ links
-            → with_names (names_at names.new.names number) (stored_node row) ≡ node_from all number (given node)) }
+        ensures inode { IfOk result (λ inode. (all : List NodeData) → entry_count number all ≡ links
+            → with_names (names_at names.new.names number) (stored_node inode) ≡ node_from all number (node_data node)) }
         ensures others { OtherNamesStay number names.old.names names.new.names }
     {
         Ok(Inode {
@@ -312,7 +312,7 @@ impl Inode {
     /// The node as a list of nodes gives it, in memory of its own, where a directory has these names.
     pub fn to_new(&self, alloc: Global, names: EntryCursor<'_>) -> Result<NewNode, AllocError>
         ensures { IfOk result (λ node. (held : Names) → maps.entries held ≡ names.entry
-            → given node ≡ given_of (with_names held (stored_node self.now))) }
+            → node_data node ≡ data_of_node (with_names held (stored_node self.now))) }
     {
         Ok(NewNode {
             content: self.content.to_new(alloc, names)?,

@@ -34,6 +34,6 @@ pub use node::{ContentView, EntryView, NewContent, NewEntry, NewNode, NodeView};
 pub use node_store::NodeStore;
 pub use tree_host::TreeHost;
 pub use wasi_host::{Bits, Limits};
-pub use way::{TellsParents, is_below};
+pub use way::{ParentLookup, is_below};
 pub use well_formed::{fit_trees_are_valid, valid_trees_are_fit};
 pub use well_formed_nodes::WellFormedNodes;

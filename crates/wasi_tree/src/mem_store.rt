@@ -4,7 +4,7 @@ ghost use Rattle.std.specs.FinMap as maps;
 ghost use Rattle.std.specs.FinSet.{empty};
 ghost use Rattle.wasi_host.specs.Tree.{next_of, node_at, names_of, is_directory};
 ghost use Rattle.wasi_tree_index.specs.DirEntryKeys.{names_at};
-ghost use Rattle.wasi_tree.specs.Given.{tree_of};
+ghost use Rattle.wasi_tree.specs.NodeData.{tree_of};
 ghost use Rattle.wasi_tree.specs.ParentOf.{AreParents, parent_of};
 ghost use Rattle.wasi_tree.specs.Sound.{IsSoundNode};
 ghost use Rattle.wasi_tree.specs.StoredTree.{stored_tree, IsStored};
@@ -17,7 +17,7 @@ use crate::node::{NewNode, NodeView};
 use crate::node_store::NodeStore;
 use crate::parents::Parents;
 use crate::store::InodeStore;
-use crate::way::TellsParents;
+use crate::way::ParentLookup;
 use crate::well_formed_nodes::WellFormedNodes;
 use std::alloc::{AllocError, Global};
 use std::marker::Model;
@@ -63,7 +63,7 @@ impl MemStore {
 
     /// The tree of these rows, with the names of all directories, and for each node the directory that it stands in. No
     /// node has been worked on, and none is touched.
-    pub fn of_rows(
+    pub fn of_stored(
         alloc: Global,
         rows: Vec<Inode>,
         names: NameIndex,
@@ -75,8 +75,8 @@ impl MemStore {
         ensures tree { IfOk result (λ t. t.tree ≡ stored_tree rows.items names.names limits empty) }
         ensures touched { IfOk result (λ t. t.touched ≡ empty) }
     {
-        let store = InodeStore::of_rows(alloc, rows, names, limits)?;
-        MemStore::begin(alloc, store, Parents::of_rows(parents))
+        let store = InodeStore::of_stored(alloc, rows, names, limits)?;
+        MemStore::begin(alloc, store, Parents::of_stored(parents))
     }
 
     /// A store of which no node is touched.
@@ -238,10 +238,10 @@ impl NodeStore for MemStore {
     }
 
     /// All room is taken first, so that nothing has changed where memory is wanted.
-    fn make_node(&mut self, directory: u64, name: Name<'_>, row: Inode) -> Result<u64, AllocError> {
+    fn make_node(&mut self, directory: u64, name: Name<'_>, inode: Inode) -> Result<u64, AllocError> {
         self.touched.reserve()?;
         self.parents.reserve()?;
-        let node = self.store.make_node(directory, name, row)?;
+        let node = self.store.make_node(directory, name, inode)?;
         self.touched.push();
         self.parents.push(directory);
         Ok(node)

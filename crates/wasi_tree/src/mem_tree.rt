@@ -6,7 +6,7 @@ ghost use Rattle.std.specs.List.{slice_get};
 ghost use Rattle.std.specs.Option.{option_map};
 ghost use Rattle.wasi_host.specs.Tree.{next_of, node_at, names_of};
 ghost use Rattle.wasi_host.specs.ValidTree.{AreLimits};
-ghost use Rattle.wasi_tree.specs.Given.{given, tree_of};
+ghost use Rattle.wasi_tree.specs.NodeData.{node_data, tree_of};
 ghost use Rattle.wasi_tree.specs.WellFormed.{AreFit, IsTreeCause};
 ghost use Rattle.wasi_tree.specs.Changed.{changed};
 ghost use Rattle.wasi_tree.specs.Viewed.{Views};
@@ -32,9 +32,9 @@ impl TreeHost<MemStore> {
     /// `WellFormedNodes::new` says both. It has no live handle, no node is touched, and there is no look-up.
     pub fn new(alloc: Global, nodes: Vec<NewNode>, limits: Limits) -> Result<MemTree, TreeError>
         requires limits { AreLimits limits }
-        ensures tree { IfOk result (λ m. m.tree ≡ tree_of (map given nodes.items) limits) }
-        ensures fit { OnOk result (AreFit limits (map given nodes.items)) }
-        ensures cause { IfErr result (IsTreeCause limits (map given nodes.items)) }
+        ensures tree { IfOk result (λ m. m.tree ≡ tree_of (map node_data nodes.items) limits) }
+        ensures fit { OnOk result (AreFit limits (map node_data nodes.items)) }
+        ensures cause { IfErr result (IsTreeCause limits (map node_data nodes.items)) }
         ensures live { IfOk result (λ m. live_of m.handles ≡ empty) }
         ensures touched { IfOk result (λ m. m.touched ≡ empty) }
         ensures lookups { IfOk result (λ m. m.lookups ≡ []) }

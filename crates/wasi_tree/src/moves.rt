@@ -4,7 +4,7 @@ ghost use Rattle.wasi_paths.specs.Name.{name_bytes};
 ghost use Rattle.wasi_host.specs.Tree.{node_at, is_directory, hold_one};
 ghost use Rattle.wasi_host.specs.Below.{is_below};
 ghost use Rattle.wasi_host.specs.HostCall.{RenameAt};
-ghost use Rattle.wasi_host.specs.Refusal.{first_rule, loop_rows, refusal, refused_with};
+ghost use Rattle.wasi_host.specs.Refusal.{first_rule, loop_rules, refusal, refused_with};
 ghost use Rattle.wasi_tree.specs.NameLookup.{IsLooked};
 ghost use Rattle.wasi_tree.specs.Move.{Moves};
 
@@ -50,7 +50,7 @@ fn refuse_loop<S: NodeStore>(
 ) -> Option<ErrorCode>
     requires old { is_directory (node_at (S.seen store.now).tree old).content ≡ true }
     requires new { is_directory (node_at (S.seen store.now).tree new).content ≡ true }
-    ensures { result ≡ first_rule (loop_rows (S.seen store.now).tree old new (Some node) there) }
+    ensures { result ≡ first_rule (loop_rules (S.seen store.now).tree old new (Some node) there) }
 {
     if has_below(store, node, new) {
         return Some(ErrorCode::Invalid);

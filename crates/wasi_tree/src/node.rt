@@ -1,6 +1,6 @@
 //! Nodes as plain data.
 ghost use Rattle.std.specs.Prelude.{◌≡◌};
-ghost use Rattle.wasi_tree.specs.Given.{given, given_content, new_given, may_search};
+ghost use Rattle.wasi_tree.specs.NodeData.{node_data, content_data, new_node_data, may_search};
 ghost use Rattle.wasi_host.specs.Tree.{default_bits};
 
 use wasi_host::{Bits, SystemTime};
@@ -35,7 +35,7 @@ impl NewNode {
     /// A node of this content, with the bits and times that a new one has: it may be read and written, a directory or a
     /// link searched too, and its times are the epoch.
     pub fn new(content: NewContent) -> NewNode
-        ensures node { given result ≡ new_given (given_content content) }
+        ensures node { node_data result ≡ new_node_data (content_data content) }
     {
         let x = content.may_search();
         NewNode {
@@ -61,7 +61,7 @@ pub fn new_bits(x: bool) -> Bits
 
 impl NewContent {
     fn may_search(&self) -> bool
-        ensures { result ≡ may_search (given_content self.now) }
+        ensures { result ≡ may_search (content_data self.now) }
     {
         match self {
             NewContent::File(_) => false,

@@ -14,7 +14,7 @@ ghost use Rattle.wasi_host.specs.Step.{file_cut, node_made, bytes_put, size_set,
 ghost use Rattle.wasi_host.specs.Answer.{metadata_of, entry_of, listed};
 ghost use Rattle.wasi_host.specs.Numbers.{largest_file};
 ghost use Rattle.wasi_host.specs.Time.{HasTimes};
-ghost use Rattle.wasi_tree.specs.Given.{given, given_of};
+ghost use Rattle.wasi_tree.specs.NodeData.{node_data, data_of_node};
 ghost use Rattle.wasi_tree.specs.NameLookup.{IsLooked, looked_at};
 ghost use Rattle.wasi_tree.specs.Move.{HasName, IsMove, MayGain, MayName};
 ghost use Rattle.wasi_tree.specs.Sound.{NodesStay, IsSoundNode, IsSoundText};
@@ -126,7 +126,7 @@ pub trait NodeStore {
 
     /// All nodes as a list gives them, each directory's entries in byte order.
     fn to_new(&self, alloc: Global) -> Result<Vec<NewNode>, AllocError>
-        ensures { IfOk result (λ nodes. map given nodes.items ≡ map given_of (seen self.now).tree.nodes) };
+        ensures { IfOk result (λ nodes. map node_data nodes.items ≡ map data_of_node (seen self.now).tree.nodes) };
 
     /// Makes room at a node.
     fn make_room(&mut self, n: u64) -> Result<(), AllocError>
@@ -154,13 +154,13 @@ pub trait NodeStore {
         ensures rising { IfOk result (λ nodes. IsStrictlySortedBy nat_cmp nodes.items) };
 
     /// Makes a node under a name that a directory lacks, and gives its number. It is touched, and has room.
-    fn make_node(&mut self, directory: u64, name: Name<'_>, row: Inode) -> Result<u64, AllocError>
+    fn make_node(&mut self, directory: u64, name: Name<'_>, inode: Inode) -> Result<u64, AllocError>
         requires may { MayName (seen self.old).tree directory (name_bytes name) }
-        requires sound { IsSoundNode 0 (stored_node row) }
+        requires sound { IsSoundNode 0 (stored_node inode) }
         requires at { HasRoom self.old directory }
         ensures number { IfOk result (λ n. n ≡ next_of (seen self.old).tree) }
         ensures made { OnOk result (seen self.new ≡ with_touched
-            (with_tree (seen self.old) (node_made (seen self.old).tree directory (name_bytes name.entry) (stored_node row)))
+            (with_tree (seen self.old) (node_made (seen self.old).tree directory (name_bytes name.entry) (stored_node inode)))
             (next_of (seen self.old).tree)) }
         ensures fresh { IfOk result (HasRoom self.new) }
         ensures kept { OnErr result (seen self.new ≡ seen self.old) }

@@ -1,12 +1,12 @@
 //! In which directory each directory stands.
 ghost use Rattle.std.specs.Prelude.{◌≡◌, ◌<◌, ◌++◌, ◌∷◌, [], IfOk, OnOk, length, map, Some, slice_set, vec_len, vec_capacity};
 ghost use Rattle.std.specs.Option.{ForSome};
-ghost use Rattle.wasi_tree.specs.Given.{given};
+ghost use Rattle.wasi_tree.specs.NodeData.{node_data};
 ghost use Rattle.wasi_tree.specs.FitTests.{entry_numbers};
 ghost use Rattle.wasi_tree.specs.ParentOf.{is_on_way, without_parent, ArePut, TellParents};
 
 use crate::node::{NewEntry, NewNode};
-use crate::way::{TellsParents, is_below};
+use crate::way::{ParentLookup, is_below};
 use crate::well_formed::entries_of;
 use std::alloc::{AllocError, Global};
 
@@ -21,7 +21,7 @@ pub struct Parents {
 impl Parents {
     /// Of each node of a list, the last directory with an entry that gives it.
     pub fn of(alloc: Global, nodes: &[NewNode]) -> Result<Parents, AllocError>
-        ensures { IfOk result (λ parents. TellParents (map given nodes.now) parents.rows.items) }
+        ensures { IfOk result (λ parents. TellParents (map node_data nodes.now) parents.rows.items) }
     {
         let mut rows = vec![in alloc; None; nodes.len()]?;
         for (directory, node) in nodes.iter().enumerate() {
@@ -31,7 +31,7 @@ impl Parents {
     }
 
     /// These directories, by the numbers of their nodes.
-    pub fn of_rows(rows: Vec<Option<u64>>) -> Parents
+    pub fn of_stored(rows: Vec<Option<u64>>) -> Parents
         ensures { result.rows.items ≡ rows.items }
     {
         Parents { rows }
@@ -81,8 +81,8 @@ impl Parents {
     }
 }
 
-impl TellsParents for Parents {
-    ghost told = { λ p. p.rows.items };
+impl ParentLookup for Parents {
+    ghost known_parents = { λ p. p.rows.items };
 
     fn count(&self) -> u64 {
         self.rows.len() as u64

@@ -4,7 +4,7 @@ ghost use Rattle.std.specs.Option.{ForSome};
 ghost use Rattle.wasi_paths.specs.Name.{name_bytes};
 ghost use Rattle.wasi_host.specs.Tree.{next_of, node_at, child, links_of};
 ghost use Rattle.wasi_host.specs.HostCall.{OpenAt, StatAt, MakeDirAt, SymlinkAt, LinkAt, UnlinkAt, RemoveDirAt};
-ghost use Rattle.wasi_host.specs.Refusal.{refusal, refused_with, first_rule, name_rows, entry_rows, growing_rows, making_rows, text_rows, missing_rows, found_rows, both_rows, links_rows, dropping_rows, naming_rows, access_rows, replacing_rows, moving_rows};
+ghost use Rattle.wasi_host.specs.Refusal.{refusal, refused_with, first_rule, name_rules, adding_rules, growing_rules, making_rules, text_rules, missing_rules, found_rules, both_rules, links_rules, dropping_rules, naming_rules, access_rules, replacing_rules, moving_rules};
 ghost use Rattle.wasi_paths.specs.Text.{is_entry_name};
 ghost use Rattle.wasi_host.specs.Time.{HasTimes};
 ghost use Rattle.wasi_host.specs.Answer.{stat_at_answer, link_answer, access_answer, list_answer, entry_of};
@@ -24,7 +24,7 @@ use wasi_paths::Name;
 #[tactic(auto, using(crate::proofs::StoreLemmas::store_rules), unfolding(wasi_host::specs::Refusal::refusal))]
 pub fn refuse_name<S: NodeStore>(store: &S, directory: u64, name: Name<'_>) -> Option<ErrorCode>
     requires { directory < next_of (S.seen store.now).tree }
-    ensures { result ≡ first_rule (name_rows (S.seen store.now).tree directory (name_bytes name.entry)) }
+    ensures { result ≡ first_rule (name_rules (S.seen store.now).tree directory (name_bytes name.entry)) }
 {
     if name.has_nul() {
         return Some(ErrorCode::Invalid);
@@ -46,7 +46,7 @@ pub fn refuse_missing<S: NodeStore>(
     options: &OpenOptions,
 ) -> Option<ErrorCode>
     requires { directory < next_of (S.seen store.now).tree }
-    ensures { result ≡ first_rule (missing_rows (S.seen store.now).tree directory options.now) }
+    ensures { result ≡ first_rule (missing_rules (S.seen store.now).tree directory options.now) }
 {
     if !options.creates() {
         return Some(ErrorCode::NoEntry);
@@ -58,7 +58,7 @@ pub fn refuse_missing<S: NodeStore>(
 #[tactic(auto, using(crate::proofs::StoreLemmas::store_rules))]
 pub fn refuse_entry<S: NodeStore>(store: &S, directory: u64) -> Option<ErrorCode>
     requires { directory < next_of (S.seen store.now).tree }
-    ensures { result ≡ first_rule (entry_rows (S.seen store.now).tree directory) }
+    ensures { result ≡ first_rule (adding_rules (S.seen store.now).tree directory) }
 {
     if store.is_gone(directory) {
         return Some(ErrorCode::NoEntry);
@@ -73,7 +73,7 @@ pub fn refuse_entry<S: NodeStore>(store: &S, directory: u64) -> Option<ErrorCode
 #[tactic(auto, using(crate::proofs::StoreLemmas::store_rules))]
 pub fn refuse_growth<S: NodeStore>(store: &S, directory: u64) -> Option<ErrorCode>
     requires { directory < next_of (S.seen store.now).tree }
-    ensures { result ≡ first_rule (growing_rows (S.seen store.now).tree directory) }
+    ensures { result ≡ first_rule (growing_rules (S.seen store.now).tree directory) }
 {
     if let Some(code) = refuse_entry(store, directory) {
         return Some(code);
@@ -88,7 +88,7 @@ pub fn refuse_growth<S: NodeStore>(store: &S, directory: u64) -> Option<ErrorCod
 #[tactic(auto, using(crate::proofs::StoreLemmas::store_rules))]
 pub fn refuse_found<S: NodeStore>(store: &S, node: u64, options: &OpenOptions) -> Option<ErrorCode>
     requires { node < next_of (S.seen store.now).tree }
-    ensures { result ≡ first_rule (found_rows (S.seen store.now).tree options.now (Some node)) }
+    ensures { result ≡ first_rule (found_rules (S.seen store.now).tree options.now (Some node)) }
 {
     if options.is_create_new() {
         return Some(ErrorCode::Exist);
@@ -172,7 +172,7 @@ pub fn node_under<S: NodeStore>(store: &S, looked: &NameLookup<'_>) -> Result<u6
 #[tactic(auto, using(crate::proofs::StoreLemmas::store_rules))]
 pub fn refuse_new_name<S: NodeStore>(store: &S, looked: &NameLookup<'_>) -> Option<ErrorCode>
     requires { IsLooked (S.seen store.now).tree looked.now }
-    ensures { result ≡ first_rule (making_rows (S.seen store.now).tree looked.now.directory (name_bytes looked.now.name)) }
+    ensures { result ≡ first_rule (making_rules (S.seen store.now).tree looked.now.directory (name_bytes looked.now.name)) }
 {
     if let Some(code) = refuse_name(store, looked.directory, looked.name) {
         return Some(code);
@@ -255,7 +255,7 @@ pub fn node_to_drop<S: NodeStore>(
 ) -> Result<u64, ErrorCode>
     requires { IsLooked (S.seen store.now).tree looked.now }
     ensures refusal { refused_with result
-        ≡ first_rule (dropping_rows (S.seen store.now).tree looked.now.directory (name_bytes looked.now.name) dot) }
+        ≡ first_rule (dropping_rules (S.seen store.now).tree looked.now.directory (name_bytes looked.now.name) dot) }
     ensures node { IfOk result (λ n. child (S.seen store.now).tree looked.now.directory (name_bytes looked.now.name) ≡ Some n) }
     ensures below { IfOk result (λ n. n < next_of (S.seen store.now).tree) }
     ensures found { IfOk result (λ n. looked.now.found ≡ Some n) }
@@ -288,7 +288,7 @@ pub fn refuse_both<S: NodeStore>(
     requires old { IsLooked (S.seen store.now).tree old.now }
     requires new { IsLooked (S.seen store.now).tree new.now }
     ensures { result
-        ≡ first_rule (both_rows (S.seen store.now).tree old.now.directory (name_bytes old.now.name) new.now.directory (name_bytes new.now.name)) }
+        ≡ first_rule (both_rules (S.seen store.now).tree old.now.directory (name_bytes old.now.name) new.now.directory (name_bytes new.now.name)) }
 {
     if !store.is_directory(old.directory) || !store.is_directory(new.directory) {
         return Some(ErrorCode::NotDirectory);
@@ -336,7 +336,7 @@ pub fn node_to_link<S: NodeStore>(
 #[tactic(auto, using(crate::proofs::StoreLemmas::store_rules))]
 pub fn check_links<S: NodeStore>(store: &S, node: u64) -> Result<(), ErrorCode>
     requires { node < next_of (S.seen store.now).tree }
-    ensures refusal { refused_with result ≡ first_rule (links_rows (S.seen store.now).tree (Some node)) }
+    ensures refusal { refused_with result ≡ first_rule (links_rules (S.seen store.now).tree (Some node)) }
     ensures room { OnOk result (links_of (node_at (S.seen store.now).tree node).content < 2 ^ 64 - 1) }
 {
     if store.is_directory(node) {
@@ -360,7 +360,7 @@ pub fn node_to_rename<S: NodeStore>(
     requires old { IsLooked (S.seen store.now).tree old.now }
     requires new { IsLooked (S.seen store.now).tree new.now }
     ensures refusal { refused_with result ≡ first_rule
-        (naming_rows (S.seen store.now).tree old.now.directory (name_bytes old.now.name) new.now.directory (name_bytes new.now.name) requires_dir) }
+        (naming_rules (S.seen store.now).tree old.now.directory (name_bytes old.now.name) new.now.directory (name_bytes new.now.name) requires_dir) }
     ensures node { IfOk result (λ n. child (S.seen store.now).tree old.now.directory (name_bytes old.now.name) ≡ Some n) }
     ensures below { IfOk result (λ n. n < next_of (S.seen store.now).tree) }
 {
@@ -392,7 +392,7 @@ pub fn refuse_move<S: NodeStore>(
     requires new { new < next_of (S.seen store.now).tree }
     requires node { node < next_of (S.seen store.now).tree }
     requires there { ForSome there (λ n. n < next_of (S.seen store.now).tree) }
-    ensures { result ≡ first_rule (moving_rows (S.seen store.now).tree old new (Some node) there) }
+    ensures { result ≡ first_rule (moving_rules (S.seen store.now).tree old new (Some node) there) }
 {
     if let Some(code) = refuse_access(store, old, new, node) {
         return Some(code);
@@ -409,7 +409,7 @@ pub fn refuse_access<S: NodeStore>(store: &S, old: u64, new: u64, node: u64) -> 
     requires old { old < next_of (S.seen store.now).tree }
     requires new { new < next_of (S.seen store.now).tree }
     requires node { node < next_of (S.seen store.now).tree }
-    ensures { result ≡ first_rule (access_rows (S.seen store.now).tree old new (Some node)) }
+    ensures { result ≡ first_rule (access_rules (S.seen store.now).tree old new (Some node)) }
 {
     if !store.bits(old).w || !store.bits(new).w {
         return Some(ErrorCode::Access);
@@ -428,7 +428,7 @@ pub fn refuse_access<S: NodeStore>(store: &S, old: u64, new: u64, node: u64) -> 
 pub fn refuse_replace<S: NodeStore>(store: &S, node: u64, lost: u64) -> Option<ErrorCode>
     requires node { node < next_of (S.seen store.now).tree }
     requires lost { lost < next_of (S.seen store.now).tree }
-    ensures { result ≡ first_rule (replacing_rows (S.seen store.now).tree (Some node) (Some lost)) }
+    ensures { result ≡ first_rule (replacing_rules (S.seen store.now).tree (Some node) (Some lost)) }
 {
     let is_directory = store.is_directory(node);
     let replaces_directory = store.is_directory(lost);
@@ -446,7 +446,7 @@ pub fn refuse_replace<S: NodeStore>(store: &S, node: u64, lost: u64) -> Option<E
 
 /// What is wrong with the text of a link that is to be made.
 fn refuse_text(text: &str) -> Option<ErrorCode>
-    ensures { result ≡ first_rule (text_rows text.now) }
+    ensures { result ≡ first_rule (text_rules text.now) }
 {
     if text.is_empty() {
         return Some(ErrorCode::NoEntry);

@@ -7,7 +7,7 @@ ghost use Rattle.wasi_host.specs.Refusal.{is_bare};
 ghost use Rattle.wasi_host.specs.Step.{file_cut, node_made, bytes_put, size_set, times_set};
 ghost use Rattle.wasi_host.specs.Answer.{metadata_of, kind_of, entry_of, listed};
 ghost use Rattle.wasi_host.specs.Numbers.{largest_file};
-ghost use Rattle.wasi_tree.specs.Given.{given, given_of, nodes_from, tree_of};
+ghost use Rattle.wasi_tree.specs.NodeData.{node_data, data_of_node, nodes_from, tree_of};
 ghost use Rattle.wasi_tree.specs.WellFormed.{name_counts};
 ghost use Rattle.wasi_tree.specs.Viewed.{Views};
 ghost use Rattle.wasi_tree.specs.Sound.{NodesStay, IsSoundText};
@@ -30,7 +30,7 @@ use wasi_tree_index::{EntryCursor, NameIndex, SearchHint};
 /// see the tree.
 #[derive(Debug, Drop)]
 pub struct InodeStore {
-    pub(crate) rows: Vec<Inode>,
+    pub(crate) inodes: Vec<Inode>,
     pub(crate) names: NameIndex,
     pub(crate) limits: Limits,
     pub(crate) worked: Marks,
@@ -46,9 +46,9 @@ impl Model for InodeStore {
 
     ghost use Rattle.wasi_tree.specs.StoredTree.{stored_tree, IsStored};
 
-    ghost view = { λ a. stored_tree a.rows.items a.names.names a.limits a.worked.nodes };
+    ghost view = { λ a. stored_tree a.inodes.items a.names.names a.limits a.worked.nodes };
 
-    ghost invariant = { λ a. IsStored a.rows.items a.names.names a.limits a.worked.nodes a.worked.count };
+    ghost invariant = { λ a. IsStored a.inodes.items a.names.names a.limits a.worked.nodes a.worked.count };
 }
 
 #[tactic(auto, using(crate::proofs::StoreLemmas::store_rules))]
@@ -67,23 +67,23 @@ impl InodeStore {
             limits,
         } = fit;
         let mut names = NameIndex::new(alloc);
-        let rows = refusal_rules(alloc, nodes, &counts, &mut names)?;
-        InodeStore::of_rows(alloc, rows, names, limits)
+        let inodes = inodes_of(alloc, nodes, &counts, &mut names)?;
+        InodeStore::of_stored(alloc, inodes, names, limits)
     }
 
     /// The tree of these rows, with the names of all directories. No node has been worked on.
-    pub fn of_rows(
+    pub fn of_stored(
         alloc: Global,
-        rows: Vec<Inode>,
+        inodes: Vec<Inode>,
         names: NameIndex,
         limits: Limits,
     ) -> Result<InodeStore, AllocError>
-        requires { IsStored rows.items names.names limits empty (length rows.items) }
-        ensures tree { IfOk result (λ store. store ≡ stored_tree rows.items names.names limits empty) }
+        requires { IsStored inodes.items names.names limits empty (length inodes.items) }
+        ensures tree { IfOk result (λ store. store ≡ stored_tree inodes.items names.names limits empty) }
     {
-        let worked = Marks::new(alloc, rows.len())?;
+        let worked = Marks::new(alloc, inodes.len())?;
         Ok(InodeStore {
-            rows,
+            inodes,
             names,
             limits,
             worked,
@@ -92,16 +92,16 @@ impl InodeStore {
 
     /// The nodes as a list gives them, each directory's entries in byte order.
     pub fn to_new(&self, alloc: Global) -> Result<Vec<NewNode>, AllocError>
-        ensures { IfOk result (λ nodes. map given nodes.items ≡ map given_of self.now.nodes) }
+        ensures { IfOk result (λ nodes. map node_data nodes.items ≡ map data_of_node self.now.nodes) }
     {
-        new_nodes(alloc, self.rows.as_slice(), &self.names)
+        new_nodes(alloc, self.inodes.as_slice(), &self.names)
     }
 
     /// How many nodes there are.
     pub fn count(&self) -> u64
         ensures { result ≡ next_of self.now }
     {
-        self.rows.as_slice().len() as u64
+        self.inodes.as_slice().len() as u64
     }
 
     /// The limits of the tree.
@@ -116,7 +116,7 @@ impl InodeStore {
         requires { n < next_of self.now }
         ensures { Views (node_at self.now n) result }
     {
-        self.rows[n as usize].view()
+        self.inodes[n as usize].view()
     }
 
     /// The names of a directory, in byte order. What is no directory has none.
@@ -142,7 +142,7 @@ impl InodeStore {
     pub fn laws(&self)
         ensures { (n : ℕ) → IsSoundNode (next_of self.now) (node_at self.now n) }
     {
-        let _rows = &self.rows;
+        let _inodes = &self.inodes;
     }
 
     /// The node that a directory holds under a text.
@@ -163,7 +163,7 @@ impl InodeStore {
         if n >= self.count() {
             return false;
         }
-        self.rows[n as usize].content.is_directory()
+        self.inodes[n as usize].content.is_directory()
     }
 
     /// Whether a number is a file's.
@@ -171,7 +171,7 @@ impl InodeStore {
         requires { n < next_of self.now }
         ensures { result ≡ is_file (node_at self.now n).content }
     {
-        self.rows[n as usize].content.is_file()
+        self.inodes[n as usize].content.is_file()
     }
 
     /// Whether a number is a link's.
@@ -179,7 +179,7 @@ impl InodeStore {
         requires { n < next_of self.now }
         ensures { result ≡ is_link (node_at self.now n).content }
     {
-        self.rows[n as usize].content.is_link()
+        self.inodes[n as usize].content.is_link()
     }
 
     /// Whether a number is that of a directory that is gone.
@@ -187,7 +187,7 @@ impl InodeStore {
         requires { n < next_of self.now }
         ensures { result ≡ is_gone (node_at self.now n).content }
     {
-        self.rows[n as usize].content.is_gone()
+        self.inodes[n as usize].content.is_gone()
     }
 
     /// The bits of a node.
@@ -195,7 +195,7 @@ impl InodeStore {
         requires { n < next_of self.now }
         ensures { result ≡ (node_at self.now n).bits }
     {
-        self.rows[n as usize].bits
+        self.inodes[n as usize].bits
     }
 
     /// How many names a node has. A directory's are shown as 1.
@@ -203,7 +203,7 @@ impl InodeStore {
         requires { n < next_of self.now }
         ensures { result ≡ links_of (node_at self.now n).content }
     {
-        self.rows[n as usize].content.links()
+        self.inodes[n as usize].content.links()
     }
 
     /// A file's bytes. Nothing of what is no file.
@@ -211,7 +211,7 @@ impl InodeStore {
         requires { n < next_of self.now }
         ensures { result.now ≡ bytes_of (node_at self.now n).content }
     {
-        self.rows[n as usize].content.bytes()
+        self.inodes[n as usize].content.bytes()
     }
 
     /// A link's text. Nothing of what is no link.
@@ -220,7 +220,7 @@ impl InodeStore {
         ensures text { result.now ≡ text_of (node_at self.now n).content }
         ensures sound { is_link (node_at self.now n).content ≡ true → IsSoundText result.now }
     {
-        self.rows[n as usize].content.text()
+        self.inodes[n as usize].content.text()
     }
 
     /// Whether a directory holds no names.
@@ -253,7 +253,7 @@ impl InodeStore {
         ensures stays { NodesStay self.old self.new }
         ensures count { next_of self.new ≡ next_of self.old }
     {
-        self.rows[file as usize].content.cut();
+        self.inodes[file as usize].content.cut();
         self.worked.mark(file);
     }
 
@@ -263,24 +263,24 @@ impl InodeStore {
         &mut self,
         directory: u64,
         name: Name<'_>,
-        row: Inode,
+        inode: Inode,
     ) -> Result<u64, AllocError>
         requires directory { is_directory (node_at self.old directory).content ≡ true }
         requires named { IsTrue (is_entry_name (name_bytes name)) }
-        requires sound { IsSoundNode 0 (stored_node row) }
+        requires sound { IsSoundNode 0 (stored_node inode) }
         ensures number { IfOk result (λ n. n ≡ next_of self.old) }
         ensures made { OnOk result
-            (self.new ≡ node_made self.old directory (name_bytes name.entry) (stored_node row)) }
+            (self.new ≡ node_made self.old directory (name_bytes name.entry) (stored_node inode)) }
         ensures kept { OnErr result (self.new ≡ self.old) }
         ensures stays { NodesStay self.old self.new }
     {
         let text = String::from_str(self.allocator(), name.as_str())?;
         let node = self.count();
         self.names.reserve()?;
-        self.rows.reserve(1)?;
+        self.inodes.reserve(1)?;
         self.worked.reserve()?;
         self.names.insert(directory, text, node);
-        self.rows.push_reserved(row);
+        self.inodes.push_reserved(inode);
         self.worked.mark(directory);
         self.worked.push();
         Ok(node)
@@ -307,7 +307,7 @@ impl InodeStore {
 
     /// The allocator of its memory.
     pub fn allocator(&self) -> Global {
-        *self.rows.allocator()
+        *self.inodes.allocator()
     }
 
     /// The kind of a node; that of a file where the number is out of range.
@@ -317,7 +317,7 @@ impl InodeStore {
         if n >= self.count() {
             return FileType::RegularFile;
         }
-        self.rows[n as usize].content.kind()
+        self.inodes[n as usize].content.kind()
     }
 
     /// Sets the given times of a node; one that isn't given stays.
@@ -327,7 +327,7 @@ impl InodeStore {
         ensures stays { NodesStay self.old self.new }
         ensures count { next_of self.new ≡ next_of self.old }
     {
-        self.rows[node as usize].set_times(atime, mtime);
+        self.inodes[node as usize].set_times(atime, mtime);
         self.worked.mark(node);
     }
 
@@ -337,7 +337,7 @@ impl InodeStore {
         ensures metadata { result ≡ metadata_of self.now node }
         ensures times { HasTimes result }
     {
-        self.rows[node as usize].metadata(node)
+        self.inodes[node as usize].metadata(node)
     }
 
     /// Puts a piece of bytes into a file from an offset on. Where memory is wanted, nothing has changed.
@@ -349,7 +349,7 @@ impl InodeStore {
         ensures stays { NodesStay self.old self.new }
         ensures count { next_of self.new ≡ next_of self.old }
     {
-        self.rows[file as usize].content.put(offset, piece)?;
+        self.inodes[file as usize].content.put(offset, piece)?;
         self.worked.mark(file);
         Ok(())
     }
@@ -362,7 +362,7 @@ impl InodeStore {
         ensures stays { NodesStay self.old self.new }
         ensures count { next_of self.new ≡ next_of self.old }
     {
-        self.rows[file as usize].content.resize(size)?;
+        self.inodes[file as usize].content.resize(size)?;
         self.worked.mark(file);
         Ok(())
     }
@@ -370,35 +370,35 @@ impl InodeStore {
 
 /// The rows of these nodes, where no names are there yet; those of their directories come. The counts say how many entries
 /// give each number.
-fn refusal_rules(
+fn inodes_of(
     alloc: Global,
     nodes: Vec<NewNode>,
     counts: &[u64],
     names: &mut NameIndex,
 ) -> Result<Vec<Inode>, AllocError>
-    requires counts { counts.now ≡ name_counts (map given nodes.items) }
+    requires counts { counts.now ≡ name_counts (map node_data nodes.items) }
     requires none { names.old.names ≡ maps.empty }
-    ensures nodes { let all = map given nodes.items in
-        IfOk result (λ rows. named_from names.new.names 0 (map stored_node rows.items) ≡ nodes_from all 0 all) }
-    ensures below { IfOk result (λ rows. AreBelow names.new.names (length rows.items)) }
+    ensures nodes { let all = map node_data nodes.items in
+        IfOk result (λ inodes. named_from names.new.names 0 (map stored_node inodes.items) ≡ nodes_from all 0 all) }
+    ensures below { IfOk result (λ inodes. AreBelow names.new.names (length inodes.items)) }
 {
-    let mut rows = Vec::with_capacity(alloc, nodes.len())?;
+    let mut inodes = Vec::with_capacity(alloc, nodes.len())?;
     for node in nodes {
-        let number = rows.len();
-        let row = Inode::new(node, number as u64, counts[number], names)?;
-        rows.push(row)?;
+        let number = inodes.len();
+        let inode = Inode::new(node, number as u64, counts[number], names)?;
+        inodes.push(inode)?;
     }
-    Ok(rows)
+    Ok(inodes)
 }
 
 /// The nodes of these rows and names as a list gives them.
-fn new_nodes(alloc: Global, rows: &[Inode], names: &NameIndex) -> Result<Vec<NewNode>, AllocError>
-    ensures { IfOk result (λ nodes. map given nodes.items ≡ map given_of (named_from names.now.names 0 (map stored_node rows.now))) }
+fn new_nodes(alloc: Global, inodes: &[Inode], names: &NameIndex) -> Result<Vec<NewNode>, AllocError>
+    ensures { IfOk result (λ nodes. map node_data nodes.items ≡ map data_of_node (named_from names.now.names 0 (map stored_node inodes.now))) }
 {
-    let mut nodes = Vec::with_capacity(alloc, rows.len())?;
-    for row in rows {
+    let mut nodes = Vec::with_capacity(alloc, inodes.len())?;
+    for inode in inodes {
         let number = nodes.len();
-        nodes.push(row.to_new(alloc, names.names(number as u64))?)?;
+        nodes.push(inode.to_new(alloc, names.names(number as u64))?)?;
     }
     Ok(nodes)
 }

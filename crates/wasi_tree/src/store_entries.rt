@@ -60,7 +60,7 @@ impl InodeStore {
         ensures stays { NodesStay self.old self.new }
         ensures count { next_of self.new ≡ next_of self.old }
     {
-        self.rows[node as usize].content.gain_name();
+        self.inodes[node as usize].content.gain_name();
         self.worked.mark(node);
     }
 
@@ -165,7 +165,7 @@ impl InodeStore {
         ensures stays { NodesStay self.old self.new }
         ensures count { next_of self.new ≡ next_of self.old }
     {
-        self.rows[node as usize].content.lose_name();
+        self.inodes[node as usize].content.lose_name();
         self.worked.mark(node);
     }
 }

@@ -4,10 +4,10 @@ ghost use Rattle.std.specs.Ordering.{nat_cmp};
 ghost use Rattle.std.specs.List.Sorted.{IsStrictlySortedBy};
 ghost use Rattle.std.specs.FinSet.{contains, insert, empty, from_list};
 ghost use Rattle.wasi_host.specs.Tree.{node_at, is_directory};
-ghost use Rattle.wasi_tree.specs.Given.{given, given_of};
+ghost use Rattle.wasi_tree.specs.NodeData.{node_data, data_of_node};
 ghost use Rattle.wasi_host.specs.declared.injected_fault.InjectedFault.TheVariants.{Passes};
 ghost use Rattle.wasi_host.specs.HostLaws.{both_looked, one_looked, never_fails};
-ghost use Rattle.wasi_tree.specs.MemState.{live_of, held_in, world_of};
+ghost use Rattle.wasi_tree.specs.MemState.{live_of, held_in, model_of};
 
 use crate::calls;
 use crate::errors::HandleError;
@@ -75,7 +75,7 @@ impl<S: NodeStore> TreeHost<S> {
 
     /// The tree as it is, as a list of nodes in memory of its own. The entries of each directory stand in byte order.
     pub fn nodes(&self, alloc: Global) -> Result<Vec<NewNode>, AllocError>
-        ensures nodes { IfOk result (λ nodes. map given nodes.items ≡ map given_of self.now.tree.nodes) }
+        ensures nodes { IfOk result (λ nodes. map node_data nodes.items ≡ map data_of_node self.now.tree.nodes) }
     {
         self.store.to_new(alloc)
     }
@@ -130,21 +130,21 @@ impl<S: NodeStore> Host for TreeHost<S> {
 
     ghost lookups = { λ m. m.lookups };
 
-    ghost told = { true };
+    ghost modelled = { true };
 
-    ghost world = { world_of };
+    ghost model = { model_of };
 
-    ghost tells_fails = { true };
+    ghost fails_modelled = { true };
 
     ghost fails = { λ _ _. Passes };
 
-    ghost tells_found = { true };
+    ghost found_modelled = { true };
 
     ghost others = { λ _ _ t. t };
 
     ghost found = { λ m. m.tree };
 
-    ghost left = { world_of };
+    ghost left = { model_of };
 
     fn open_at(
         &mut self,

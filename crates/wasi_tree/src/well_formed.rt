@@ -8,8 +8,8 @@ ghost use Rattle.wasi_paths.specs.Text.{is_entry_name};
 ghost use Rattle.wasi_host.specs.Tree.{Tree};
 ghost use Rattle.wasi_host.specs.ValidTree.{AreLimits, IsValidTree};
 ghost use Rattle.wasi_host.specs.declared.limits.Limits.{Limits};
-ghost use Rattle.wasi_tree.specs.Given.{Given, given, given_content, given_entries, given_of, pair_of, tree_of};
-ghost use Rattle.wasi_tree.specs.GivenTests.{is_dir_content, are_distinct, are_rising, starts_with_directory};
+ghost use Rattle.wasi_tree.specs.NodeData.{NodeData, node_data, content_data, data_entries, data_of_node, pair_of, tree_of};
+ghost use Rattle.wasi_tree.specs.NodeDataTests.{is_dir_content, are_distinct, are_rising, starts_with_directory};
 ghost use Rattle.wasi_tree.specs.WellFormed.{is_fit_file, is_fit_text, is_fit_entry, entries_at, AreFit, IsTreeCause, name_counts};
 ghost use Rattle.wasi_tree.specs.FitTests.{entry_numbers, AreCounted, AreMarked, TellFound, unmarked_count, has_place, is_fit};
 
@@ -35,9 +35,9 @@ pub fn counted_names(
     nodes: &[NewNode],
     limits: Limits,
 ) -> Result<Vec<u64>, TreeError>
-    ensures fit { OnOk result (AreFit limits (map given nodes.now)) }
-    ensures counts { IfOk result (λ counts. counts.items ≡ name_counts (map given nodes.now)) }
-    ensures cause { IfErr result (IsTreeCause limits (map given nodes.now)) }
+    ensures fit { OnOk result (AreFit limits (map node_data nodes.now)) }
+    ensures counts { IfOk result (λ counts. counts.items ≡ name_counts (map node_data nodes.now)) }
+    ensures cause { IfErr result (IsTreeCause limits (map node_data nodes.now)) }
 {
     if !starts_with_directory(nodes) {
         return Err(TreeError::Invalid(0));
@@ -56,11 +56,11 @@ fn check_nodes(
     counts: &[u64],
     found: &[bool],
 ) -> Result<(), TreeError>
-    requires starts { starts_with_directory (map given nodes.now) ≡ true }
-    requires counts { counts.now ≡ name_counts (map given nodes.now) }
-    requires found { TellFound (map given nodes.now) found.now }
-    ensures fit { OnOk result (AreFit limits (map given nodes.now)) }
-    ensures cause { IfErr result (IsTreeCause limits (map given nodes.now)) }
+    requires starts { starts_with_directory (map node_data nodes.now) ≡ true }
+    requires counts { counts.now ≡ name_counts (map node_data nodes.now) }
+    requires found { TellFound (map node_data nodes.now) found.now }
+    ensures fit { OnOk result (AreFit limits (map node_data nodes.now)) }
+    ensures cause { IfErr result (IsTreeCause limits (map node_data nodes.now)) }
 {
     let count = nodes.len() as u64;
     for (i, node) in nodes.iter().enumerate() {
@@ -96,7 +96,7 @@ fn is_fit(
     place: Place,
     node: &NewNode,
 ) -> Result<bool, AllocError>
-    ensures test { IfOk result (λ is. is ≡ is_fit limits count place (given node.now)) }
+    ensures test { IfOk result (λ is. is ≡ is_fit limits count place (node_data node.now)) }
 {
     if place.number >= limits.nodes {
         return Ok(false);
@@ -129,7 +129,7 @@ fn has_place(place: Place, entries: &[NewEntry]) -> bool
 }
 
 fn starts_with_directory(nodes: &[NewNode]) -> bool
-    ensures test { result ≡ starts_with_directory (map given nodes.now) }
+    ensures test { result ≡ starts_with_directory (map node_data nodes.now) }
 {
     match nodes.first() {
         Some(node) => is_dir_content(&node.content),
@@ -138,7 +138,7 @@ fn starts_with_directory(nodes: &[NewNode]) -> bool
 }
 
 fn is_dir_content(content: &NewContent) -> bool
-    ensures test { result ≡ is_dir_content (given_content content.now) }
+    ensures test { result ≡ is_dir_content (content_data content.now) }
 {
     match content {
         NewContent::Dir(_) => true,
@@ -218,7 +218,7 @@ fn none_is_seen_twice(alloc: Global, entries: &[NewEntry]) -> Result<bool, Alloc
 
 /// The entries of a directory; a file or a link has none.
 pub fn entries_of(content: &NewContent) -> &[NewEntry]
-    ensures entries { map pair_of result.now ≡ given_entries (given_content content.now) }
+    ensures entries { map pair_of result.now ≡ data_entries (content_data content.now) }
 {
     match content {
         NewContent::Dir(entries) => entries,
@@ -231,14 +231,14 @@ pub fn entries_of(content: &NewContent) -> &[NewEntry]
 #[tactic(auto, using(crate::proofs::FoundLemmas::entries_are))]
 fn entries_at(nodes: &[NewNode], number: u64) -> &[NewEntry]
     requires within { number < length nodes.now }
-    ensures entries { map pair_of result.now ≡ entries_at (map given nodes.now) number }
+    ensures entries { map pair_of result.now ≡ entries_at (map node_data nodes.now) number }
 {
     entries_of(&nodes[number as usize].content)
 }
 
 #[tactic(auto, using(crate::proofs::CountLemmas::node_rules))]
 fn count_names(alloc: Global, nodes: &[NewNode]) -> Result<Vec<u64>, AllocError>
-    ensures counts { IfOk result (λ counts. counts.items ≡ name_counts (map given nodes.now)) }
+    ensures counts { IfOk result (λ counts. counts.items ≡ name_counts (map node_data nodes.now)) }
 {
     let mut counts = vec![in alloc; 0; nodes.len()]?;
     for node in nodes {
@@ -276,7 +276,7 @@ fn count_one(counts: &mut Vec<u64>, number: u64) -> Result<(), AllocError>
 /// Marks the numbers that are found from node 0.
 #[tactic(auto, using(crate::proofs::FoundLemmas::search_rules))]
 fn found_nodes(alloc: Global, nodes: &[NewNode]) -> Result<Vec<bool>, AllocError>
-    ensures found { IfOk result (λ marks. TellFound (map given nodes.now) marks.items) }
+    ensures found { IfOk result (λ marks. TellFound (map node_data nodes.now) marks.items) }
 {
     let mut marks = vec![in alloc; false; nodes.len()]?;
     let mut work = Vec::with_capacity(alloc, nodes.len())?;
@@ -325,14 +325,14 @@ fn mark(marks: &mut Vec<bool>, number: u64) -> bool
 
 /// The tree of a list of nodes that keep the rules is a valid tree.
 pub fn fit_trees_are_valid()
-    ensures valid { (limits : Limits) (nodes : List Given)
+    ensures valid { (limits : Limits) (nodes : List NodeData)
         → AreLimits limits → AreFit limits nodes → IsValidTree (tree_of nodes limits) }
 {}
 
 /// The nodes of a valid tree, as a list gives them, keep the rules within its limits, and the tree of that list is the
 /// tree itself, where no step has worked on a node.
 pub fn valid_trees_are_fit()
-    ensures fit { (t : Tree) → IsValidTree t → AreFit t.limits (map given_of t.nodes) }
+    ensures fit { (t : Tree) → IsValidTree t → AreFit t.limits (map data_of_node t.nodes) }
     ensures again { (t : Tree) → IsValidTree t
-        → tree_of (map given_of t.nodes) t.limits ≡ record t { worked = empty } }
+        → tree_of (map data_of_node t.nodes) t.limits ≡ record t { worked = empty } }
 {}

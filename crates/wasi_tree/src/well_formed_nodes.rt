@@ -1,6 +1,6 @@
 //! `WellFormedNodes`, nodes of which a tree can be made.
 ghost use Rattle.std.specs.Prelude.{◌≡◌, IfOk, IfErr, OnOk, map};
-ghost use Rattle.wasi_tree.specs.Given.{given};
+ghost use Rattle.wasi_tree.specs.NodeData.{node_data};
 ghost use Rattle.wasi_tree.specs.WellFormed.{AreFit, IsTreeCause};
 ghost use Rattle.wasi_tree.specs.WellFormedNodes.{NodeList};
 
@@ -22,16 +22,16 @@ pub struct WellFormedNodes {
 
 impl Model for WellFormedNodes {
     ghost use Rattle.wasi_tree.specs.WellFormedNodes.{NodeList, node_list_code, AreTested};
-    ghost use Rattle.wasi_tree.specs.Given.{given};
+    ghost use Rattle.wasi_tree.specs.NodeData.{node_data};
     ghost use Rattle.std.specs.Prelude.{map};
 
     ghost Value = { NodeList };
 
     ghost coded = { node_list_code };
 
-    ghost view = { λ a. record { nodes = map given a.nodes.items; limits = a.limits } };
+    ghost view = { λ a. record { nodes = map node_data a.nodes.items; limits = a.limits } };
 
-    ghost invariant = { λ a. AreTested a.limits (map given a.nodes.items) a.counts.items };
+    ghost invariant = { λ a. AreTested a.limits (map node_data a.nodes.items) a.counts.items };
 }
 
 impl WellFormedNodes {
@@ -53,9 +53,9 @@ impl WellFormedNodes {
         nodes: Vec<NewNode>,
         limits: Limits,
     ) -> Result<WellFormedNodes, TreeError>
-        ensures kept { IfOk result (λ f. f ≡ record { nodes = map given nodes.items; limits = limits }) }
-        ensures fit { OnOk result (AreFit limits (map given nodes.items)) }
-        ensures cause { IfErr result (IsTreeCause limits (map given nodes.items)) }
+        ensures kept { IfOk result (λ f. f ≡ record { nodes = map node_data nodes.items; limits = limits }) }
+        ensures fit { OnOk result (AreFit limits (map node_data nodes.items)) }
+        ensures cause { IfErr result (IsTreeCause limits (map node_data nodes.items)) }
     {
         let counts = counted_names(alloc, &nodes, limits)?;
         Ok(WellFormedNodes {
@@ -67,7 +67,7 @@ impl WellFormedNodes {
 
     /// The nodes as they were given.
     pub fn list(&self) -> &Vec<NewNode>
-        ensures nodes { map given result.now.items ≡ self.now.nodes }
+        ensures nodes { map node_data result.now.items ≡ self.now.nodes }
         ensures fit { AreFit self.now.limits self.now.nodes }
     {
         &self.nodes

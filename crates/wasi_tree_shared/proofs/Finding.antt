@@ -4,17 +4,17 @@ use Rattle.std.proofs.lemmas.Bool.{lt-ltb, le-ltb}
 use Rattle.wasi_host.specs.Answer.{HostAnswer}
 use Rattle.wasi_host.specs.FurtherLaws.{Finds, Follow, changed_to}
 use Rattle.wasi_host.specs.HostCall.{HostCall}
-use Rattle.wasi_host.specs.HostLaws.{Handles, Told, World}
+use Rattle.wasi_host.specs.HostLaws.{Handles, RefinesCall, HostModel}
 use Rattle.wasi_host.specs.Tree.{Tree}
 use Rattle.wasi_host.specs.declared.errors.HostError.{HostError}
 use Rattle.wasi_tree_shared.specs.Changes.{all_made, due_before, made_by_others}
 use Rattle.wasi_tree_shared.specs.declared.change.Change.{Change}
 
 -- it finds the tree with the changes before it
-pub finds_changed : {A : Type 0} {old new : Handles} {left after : World} {found : Tree} {call : HostCall}
+pub finds_changed : {A : Type 0} {old new : Handles} {left after : HostModel} {found : Tree} {call : HostCall}
     {shown : A → HostAnswer call} (r : Result A HostError)
-    → Told old new (changed_to found left) after call shown r → Finds old new left found after call shown r
-finds_changed r told = inl told
+    → RefinesCall old new (changed_to found left) after call shown r → Finds old new left found after call shown r
+finds_changed r modelled = inl modelled
 
 -- the call of a number finds the changes before it made
 pub found_numbered : (calls number : ℕ) (changes : List Change) (t : Tree) → number ≡ calls + 1 → number ≤ 2 ^ 64 - 1

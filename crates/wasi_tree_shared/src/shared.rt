@@ -3,7 +3,7 @@ ghost use Rattle.std.specs.Prelude.{◌≡◌, ℕ, ◌+◌, ◌-◌, ◌^◌, �
 ghost use Rattle.wasi_host.specs.FurtherLaws.{Follow};
 ghost use Rattle.wasi_host.specs.HostLaws.{never_fails};
 ghost use Rattle.wasi_host.specs.declared.injected_fault.InjectedFault.TheVariants.{Passes};
-ghost use Rattle.wasi_tree.specs.MemState.{live_of, world_of};
+ghost use Rattle.wasi_tree.specs.MemState.{live_of, model_of};
 ghost use Rattle.wasi_tree_shared.specs.declared.change.Change.{Change};
 ghost use Rattle.wasi_tree_shared.specs.Changes.{AreRising, all_made, found_next, due_before, made_by_others};
 
@@ -118,21 +118,21 @@ impl Host for Shared {
 
     ghost lookups = { λ s. s.inner.lookups };
 
-    ghost told = { false };
+    ghost modelled = { false };
 
-    ghost world = { λ s. world_of s.inner };
+    ghost model = { λ s. model_of s.inner };
 
-    ghost tells_fails = { true };
+    ghost fails_modelled = { true };
 
     ghost fails = { λ _ _. Passes };
 
-    ghost tells_found = { true };
+    ghost found_modelled = { true };
 
     ghost others = { λ s. made_by_others s.calls s.changes };
 
     ghost found = { found_next };
 
-    ghost left = { λ s. world_of s.inner };
+    ghost left = { λ s. model_of s.inner };
 
     fn open_at(
         &mut self,

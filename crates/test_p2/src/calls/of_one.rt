@@ -1,8 +1,8 @@
 //! The calls of a view.
 ghost use Rattle.wasi_p2_calls.specs.Views.{FilesOwned, files_of};
 
-use crate::answers::{all_kept, first, flags, kept, resource, shown, time, told_read};
-use test_support::{Asked, Told, number, unknown, word};
+use crate::answers::{all_kept, first, flags, kept, resource, shown, time, rendered_read};
+use test_support::{Asked, Rendered, number, unknown, word};
 use wasi_host::Host;
 use wasi_p2_calls::WasiFilesystemCtxView;
 use wasi_p2_calls::types::Advice;
@@ -13,7 +13,7 @@ pub fn view_call<H: Host>(
     view: &mut WasiFilesystemCtxView<'_, H>,
     given: &mut Vec<Resource>,
     asked: &Asked<'_>,
-) -> Told
+) -> Rendered
     requires owned { FilesOwned H.Host (files_of view.old.ctx.now view.old.table.now) }
     ensures owned { FilesOwned H.Host (files_of view.new.ctx.now view.new.table.now) }
 {
@@ -24,7 +24,7 @@ fn take<H: Host>(
     view: &mut WasiFilesystemCtxView<'_, H>,
     given: &[Resource],
     asked: &Asked<'_>,
-) -> Told
+) -> Rendered
     requires owned { FilesOwned H.Host (files_of view.old.ctx.now view.old.table.now) }
     ensures owned { FilesOwned H.Host (files_of view.new.ctx.now view.new.table.now) }
 {
@@ -35,7 +35,7 @@ fn tell<H: Host>(
     view: &mut WasiFilesystemCtxView<'_, H>,
     given: &[Resource],
     asked: &Asked<'_>,
-) -> Told
+) -> Rendered
     requires owned { FilesOwned H.Host (files_of view.old.ctx.now view.old.table.now) }
     ensures owned { FilesOwned H.Host (files_of view.new.ctx.now view.new.table.now) }
 {
@@ -46,7 +46,7 @@ fn change<H: Host>(
     view: &mut WasiFilesystemCtxView<'_, H>,
     given: &[Resource],
     asked: &Asked<'_>,
-) -> Told
+) -> Rendered
     requires owned { FilesOwned H.Host (files_of view.old.ctx.now view.old.table.now) }
     ensures owned { FilesOwned H.Host (files_of view.new.ctx.now view.new.table.now) }
 {
@@ -57,7 +57,7 @@ fn look<H: Host>(
     view: &mut WasiFilesystemCtxView<'_, H>,
     given: &[Resource],
     asked: &Asked<'_>,
-) -> Told
+) -> Rendered
     requires owned { FilesOwned H.Host (files_of view.old.ctx.now view.old.table.now) }
     ensures owned { FilesOwned H.Host (files_of view.new.ctx.now view.new.table.now) }
 {

@@ -2,8 +2,8 @@
 ghost use Rattle.std.specs.Prelude.{◌<◌, length};
 ghost use Rattle.test_p2.specs.AllOwned.{AllOwned, StayOwned};
 
-use crate::answers::{all_kept, first, flags, kept, resource, shown, time, told_read};
-use test_support::{Asked, Told, number, unknown, word};
+use crate::answers::{all_kept, first, flags, kept, resource, shown, time, rendered_read};
+use test_support::{Asked, Rendered, number, unknown, word};
 use wasi_host::Host;
 use wasi_p2::{NamedId, WasiCtxNamedView, WasiFilesystemNamedView};
 use wasi_p2_calls::types::Advice;
@@ -15,7 +15,7 @@ pub fn named_call<H: Host, T: WasiFilesystemNamedView<H>>(
     id: NamedId,
     given: &mut Vec<Resource>,
     asked: &Asked<'_>,
-) -> Told
+) -> Rendered
     requires named { id.0 < length (T.all all.old.0.now) }
     requires owned { AllOwned H.Host (T.all all.old.0.now) }
     ensures owned { StayOwned H.Host (T.all all.old.0.now) (T.all all.new.0.now) }
@@ -28,7 +28,7 @@ fn take<H: Host, T: WasiFilesystemNamedView<H>>(
     id: NamedId,
     given: &[Resource],
     asked: &Asked<'_>,
-) -> Told
+) -> Rendered
     requires named { id.0 < length (T.all all.old.0.now) }
     requires owned { AllOwned H.Host (T.all all.old.0.now) }
     ensures owned { StayOwned H.Host (T.all all.old.0.now) (T.all all.new.0.now) }
@@ -41,7 +41,7 @@ fn tell<H: Host, T: WasiFilesystemNamedView<H>>(
     id: NamedId,
     given: &[Resource],
     asked: &Asked<'_>,
-) -> Told
+) -> Rendered
     requires named { id.0 < length (T.all all.old.0.now) }
     requires owned { AllOwned H.Host (T.all all.old.0.now) }
     ensures owned { StayOwned H.Host (T.all all.old.0.now) (T.all all.new.0.now) }
@@ -54,7 +54,7 @@ fn change<H: Host, T: WasiFilesystemNamedView<H>>(
     id: NamedId,
     given: &[Resource],
     asked: &Asked<'_>,
-) -> Told
+) -> Rendered
     requires named { id.0 < length (T.all all.old.0.now) }
     requires owned { AllOwned H.Host (T.all all.old.0.now) }
     ensures owned { StayOwned H.Host (T.all all.old.0.now) (T.all all.new.0.now) }
@@ -67,7 +67,7 @@ fn look<H: Host, T: WasiFilesystemNamedView<H>>(
     id: NamedId,
     given: &[Resource],
     asked: &Asked<'_>,
-) -> Told
+) -> Rendered
     requires named { id.0 < length (T.all all.old.0.now) }
     requires owned { AllOwned H.Host (T.all all.old.0.now) }
     ensures owned { StayOwned H.Host (T.all all.old.0.now) (T.all all.new.0.now) }

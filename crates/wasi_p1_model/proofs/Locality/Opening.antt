@@ -10,12 +10,12 @@ use Rattle.wasi_host.proofs.Leaving.{Contains-here}
 use Rattle.wasi_p1_model.proofs.Adding.{open_adds, append_only_open, under_appends}
 use Rattle.wasi_p1_model.proofs.Changing.{named_directory, directory_perms, put_opened}
 use Rattle.wasi_p1_model.proofs.Keeping.{open_keeps, read_only_kept}
-use Rattle.wasi_p1_model.proofs.Locality.Parts.{RowNear, then, then_text, asks_near, one_under, permitted_by}
+use Rattle.wasi_p1_model.proofs.Locality.SpecParts.{SpecNear, then, then_text, asks_near, one_under, permitted_by}
 use Rattle.wasi_p1_model.proofs.Locality.Spending.{making_near}
 use Rattle.wasi_p1_types.proofs.Wanting.{how_never, directory_never, room_never, open_known, permit_never}
 
 pub path_open_near : {g : Guest} {fd dirflags path len oflags base inheriting fdflags : ℕ}
-    → RowNear g (calls.PathOpen fd dirflags path len oflags base inheriting fdflags)
+    → SpecNear g (calls.PathOpen fd dirflags path len oflags base inheriting fdflags)
 unfolding path_open
 path_open_near {g} {fd} {fdflags = fdflags} = then _ (how_never _ _ _ _ _) (λ how _. then_text g _ _ (λ text read.
     then _ (directory_never (slice_get g.slots fd)) (λ d is. then _ (room_never g.slots g.table_max 1) (λ _ roomy.

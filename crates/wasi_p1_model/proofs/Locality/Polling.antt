@@ -14,7 +14,7 @@ use Rattle.wasi_p1_types.specs.declared.guest_env.Clocks.{Clocks}
 use Rattle.wasi_p1_types.specs.declared.awaited.Waited.{Waited}
 use Rattle.wasi_p1_model.proofs.Changing.{put_nothing}
 use Rattle.wasi_p1_model.proofs.LocalCalls.{IsLocal, leaves}
-use Rattle.wasi_p1_model.proofs.Locality.Parts.{AlwaysNear, RowNear, then, then_taken, taken}
+use Rattle.wasi_p1_model.proofs.Locality.SpecParts.{AlwaysNear, SpecNear, then, then_taken, taken}
 use Rattle.wasi_p1_model.proofs.Polling.{IsOf, some_never, lists_never, waited_never, clocks_never, files_named_by, events_bytes}
 use Rattle.wasi_p1_types.proofs.Wanting.{room_never}
 
@@ -53,7 +53,7 @@ ready_near {g} {at = at} ws clocks (n ∷ ns) named = record {
   };
 }
 
-pub poll_oneoff_near : {g : Guest} {subscriptions events count : ℕ} → RowNear g (calls.PollOneoff subscriptions events count)
+pub poll_oneoff_near : {g : Guest} {subscriptions events count : ℕ} → SpecNear g (calls.PollOneoff subscriptions events count)
 unfolding poll_oneoff
 poll_oneoff_near {g} {subscriptions} {events = at} {count} =
     then _ (some_never count) (λ _ _. then_charge _ (48 * count) (then_charge _ (32 * count)

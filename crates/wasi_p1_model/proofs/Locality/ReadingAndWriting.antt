@@ -9,7 +9,7 @@ use Rattle.wasi_guest.specs.declared.iovec.Iovec.{Iovec}
 use Rattle.wasi_host.specs.HostCall.{Pread}
 use Rattle.wasi_p1_types.specs.Front.{free, ask, ◌>>=◌}
 use Rattle.wasi_p1_types.specs.Guest.{Guest, OpenFile, file, perms_in}
-use Rattle.wasi_p1_types.specs.Parts.{Source, input, from, source_in, Sink, output, into, sink_in, held_by, may_write}
+use Rattle.wasi_p1_types.specs.SpecParts.{ReadTarget, input, from, read_target_in, WriteTarget, output, into, write_target_in, held_by, may_write}
 use Rattle.wasi_p1_types.specs.Quotas.{allowance}
 use Rattle.wasi_p1_types.specs.Request.{Request, Reply, Direct}
 use Rattle.wasi_p1_types.specs.CallResult.{give}
@@ -21,13 +21,13 @@ use Rattle.wasi_p1_model.proofs.Bytes.{put_bytes, range_bytes, input_bytes, writ
 use Rattle.wasi_p1_model.proofs.Changing.{file_is, read_place_is, source_is, sink_is, put_back, put_nothing}
 use Rattle.wasi_p1_model.proofs.Keeping.{no_write}
 use Rattle.wasi_p1_model.proofs.LocalCalls.{StaysNear, given_by, leaves}
-use Rattle.wasi_p1_model.proofs.Locality.Parts.{AlwaysNear, RowNear, then, then_at_buffer, file_asked, one_under, permitted_by, answers_near}
+use Rattle.wasi_p1_model.proofs.Locality.SpecParts.{AlwaysNear, SpecNear, then, then_at_buffer, file_asked, one_under, permitted_by, answers_near}
 use Rattle.wasi_p1_model.proofs.Locality.Spending.{growing_near}
 use Rattle.wasi_p1_model.proofs.Putting.{PutsInto, call_puts, request_puts}
 use Rattle.wasi_p1_types.proofs.Wanting.{file_never, read_place_never, source_never, sink_never, input_never, write_never}
 use Rattle.wasi_p1_types.specs.declared.usage.FileUse.TheVariants.{WriteAt}
 
-pub fd_pread_near : {g : Guest} {fd iovs n offset : ℕ} → RowNear g (calls.FdPread fd iovs n offset)
+pub fd_pread_near : {g : Guest} {fd iovs n offset : ℕ} → SpecNear g (calls.FdPread fd iovs n offset)
 unfolding fd_pread
 fd_pread_near {g} {fd} {offset = offset} =
     then_at_buffer g _ _ (read_place_never g.slots g.table_max (slice_get g.slots fd)) (λ f is buffer _ _.
@@ -50,7 +50,7 @@ piece_near {g} {call} {f} {shown = shown} fd named is puts bytes slots still = t
     (λ perms all. puts.adds t (all fd f is perms)))
     (λ are. puts.asked (bytes are)) (λ are reply _. still reply are)))
 
-pub fd_pwrite_near : {g : Guest} {fd iovs n offset : ℕ} → RowNear g (calls.FdPwrite fd iovs n offset)
+pub fd_pwrite_near : {g : Guest} {fd iovs n offset : ℕ} → SpecNear g (calls.FdPwrite fd iovs n offset)
 unfolding fd_pwrite
 fd_pwrite_near {g} {fd} {offset = offset} =
     then_at_buffer g _ _ (file_never WriteAt (slice_get g.slots fd)) (λ f is buffer piece at. piece_near fd refl
@@ -58,7 +58,7 @@ fd_pwrite_near {g} {fd} {offset = offset} =
     (λ are. range_bytes g.memory buffer.buf buffer.buf_len are.0 at) (λ _. put_nothing g) (λ _ are. are))
 
 -- what is read
-reads_near : (g : Guest) (fd iovs n : ℕ) (source : Source) (buffer : Iovec) → source_in (slice_get g.slots fd) ≡ Ok source
+reads_near : (g : Guest) (fd iovs n : ℕ) (source : ReadTarget) (buffer : Iovec) → read_target_in (slice_get g.slots fd) ≡ Ok source
     → AlwaysNear g (calls.FdRead fd iovs n) (read_from g fd source buffer)
 reads_near g fd iovs n input buffer is =
     then _ (input_never g.memory g.holdings buffer) (λ read taken. answers_near (Number read.0) read.1.0 read.1.1 refl
@@ -70,13 +70,13 @@ reads_near g fd iovs n (from f) buffer is =
     (λ _. leaves refl) (λ _. tt)
     (λ are bytes read. (put_bytes g.memory bytes buffer.buf are.0 read, are.1))
 
-pub fd_read_near : {g : Guest} {fd iovs n : ℕ} → RowNear g (calls.FdRead fd iovs n)
+pub fd_read_near : {g : Guest} {fd iovs n : ℕ} → SpecNear g (calls.FdRead fd iovs n)
 unfolding fd_read
 fd_read_near {g} {fd} {iovs} {n} =
     then_at_buffer g _ _ (source_never _) (λ source is buffer _ _. reads_near g fd iovs n source buffer is)
 
 -- what is written
-writes_near : (g : Guest) (fd iovs n : ℕ) (sink : Sink) (piece : List ℕ) → sink_in (slice_get g.slots fd) ≡ Ok sink
+writes_near : (g : Guest) (fd iovs n : ℕ) (sink : WriteTarget) (piece : List ℕ) → write_target_in (slice_get g.slots fd) ≡ Ok sink
     → (HasBytes g → AreBytes piece) → AlwaysNear g (calls.FdWrite fd iovs n) (write_to g fd sink piece)
 writes_near g fd iovs n (output o) piece is bytes =
     answers_near (Number (length piece)) g.memory (written g.holdings o piece) refl
@@ -85,7 +85,7 @@ writes_near g fd iovs n (into f) piece is bytes = let named = sink_is (slice_get
     piece_near fd refl named (request_puts f.modes.append (held_by f) f.position piece) bytes
     (λ reply. put_back g fd _ f.modes _ named (λ _ appends. appends)) (λ _ are. are)
 
-pub fd_write_near : {g : Guest} {fd iovs n : ℕ} → RowNear g (calls.FdWrite fd iovs n)
+pub fd_write_near : {g : Guest} {fd iovs n : ℕ} → SpecNear g (calls.FdWrite fd iovs n)
 unfolding fd_write
 fd_write_near {g} {fd} {iovs} {n} = then_at_buffer g _ _ (sink_never _) (λ sink is buffer piece at.
     writes_near g fd iovs n sink piece is (λ are. range_bytes g.memory buffer.buf buffer.buf_len are.0 at))

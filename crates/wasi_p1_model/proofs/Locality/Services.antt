@@ -10,7 +10,7 @@ use Rattle.wasi_p1_model.specs.Calls.{puts_texts, random_get, no_socket, itself,
 use Rattle.wasi_p1_types.specs.Services.{random_bytes, random_taken}
 use Rattle.wasi_p1_model.specs.Validity.{AreBytes, HasBytes}
 use Rattle.wasi_p1_model.proofs.Bytes.{put_bytes, put_texts_bytes, random_are, taken_stock}
-use Rattle.wasi_p1_model.proofs.Locality.Parts.{AlwaysNear, RowNear, then, answers_near}
+use Rattle.wasi_p1_model.proofs.Locality.SpecParts.{AlwaysNear, SpecNear, then, answers_near}
 use Rattle.wasi_p1_types.proofs.Wanting.{Never, range_never, live_never, texts_never}
 
 -- texts that are put into memory
@@ -20,7 +20,7 @@ texts_near {g} texts at buf stems bytes = then _ (texts_never g.memory texts at 
     answers_near Nothing memory g.holdings stems
     (λ are. (put_texts_bytes g.memory texts at buf put are.0 (bytes are), are.1)))
 
-pub random_get_near : {g : Guest} {buf buf_len : ℕ} → RowNear g (calls.RandomGet buf buf_len)
+pub random_get_near : {g : Guest} {buf buf_len : ℕ} → SpecNear g (calls.RandomGet buf buf_len)
 unfolding random_get
 random_get_near {g} {buf} {buf_len} = then _ (range_never g.memory buf buf_len) (λ _ _.
     answers_near Nothing _ (random_taken g.holdings buf_len) refl (λ are. (

@@ -20,7 +20,7 @@ use Rattle.wasi_p1_types.specs.declared.quotas.Allowance.{Allowance}
 use Rattle.wasi_p1_model.proofs.Bytes.{used_stock}
 use Rattle.wasi_p1_model.proofs.Lengthening.{bounded_by}
 use Rattle.wasi_p1_model.proofs.LocalCalls.{Ends, GivesBytes, IsLocal, KeepsBytes, KeepsSlots, Permitted, given_by, leaves}
-use Rattle.wasi_p1_model.proofs.Locality.Parts.{AlwaysNear}
+use Rattle.wasi_p1_model.proofs.Locality.SpecParts.{AlwaysNear}
 use Rattle.wasi_p1_types.proofs.Wanting.{Never}
 
 -- ---- what is counted
@@ -58,9 +58,9 @@ make_never s = by (is_used_up s.quota.nodes s.used.nodes)
 abbrev making_used : GuestEnvModel → QuotaUsed
 making_used s = (counted_making s).used
 
-made_near : (g : Guest) (call : Call) (makes : Bool) (row : CallResult (Program (Value × Guest))) → IsLocal g call row
-    → IsLocal g call (made_by makes g row)
-made_near g call false row near = near
+made_near : (g : Guest) (call : Call) (makes : Bool) (call_spec : CallResult (Program (Value × Guest))) → IsLocal g call call_spec
+    → IsLocal g call (made_by makes g call_spec)
+made_near g call false call_spec near = near
 made_near g call true (Ok (done p)) near = near
 made_near g call true (Err e) near = near
 made_near g call true (Ok (asking r next)) near = by (may_make g.holdings) (make_never g.holdings)
@@ -87,8 +87,8 @@ making_near {g} {call} {m} makes near = record { near = λ fuel. made_near g cal
 abbrev growth_used : ℕ → GuestEnvModel → QuotaUsed
 growth_used growth s = (counted_growth growth s).used
 
-grown_near : (g : Guest) (call : Call) (limit : Option Allowance) (row : CallResult (Program (Value × Guest)))
-    → IsLocal g call row → IsLocal g call (grown_by limit row)
+grown_near : (g : Guest) (call : Call) (limit : Option Allowance) (call_spec : CallResult (Program (Value × Guest)))
+    → IsLocal g call call_spec → IsLocal g call (grown_by limit call_spec)
 grown_near g call limit (Ok (done p)) near = near
 grown_near g call limit (Err e) near = near
 grown_near g call None (Ok (asking w next)) near = record {

@@ -10,7 +10,7 @@ use Rattle.wasi_p1_types.specs.Files.{file_in, keeps_append, name_at, name_into,
 use Rattle.wasi_p1_types.specs.Front.{CallFront, free, answer, ask, tells, ◌>>=◌}
 use Rattle.wasi_p1_types.specs.Guest.{Guest, GuestSlot, closed, stream, directory, file}
 use Rattle.wasi_p1_types.specs.Numbering.{renumbered}
-use Rattle.wasi_p1_types.specs.Parts.{live_in, open_node_in, told_of, with_file}
+use Rattle.wasi_p1_types.specs.SpecParts.{live_in, open_node_in, told_of, with_file}
 use Rattle.wasi_p1_types.specs.RawFlags.{modes_in, or_inval}
 use Rattle.wasi_p1_types.specs.Request.{Direct}
 use Rattle.wasi_p1_types.specs.CallResult.{give}

@@ -3,7 +3,7 @@ use Rattle.std.specs.Prelude.{ℕ, slice_get}
 use Rattle.wasi_p1_types.specs.Front.{CallFront, free, ask, ◌>>=◌}
 use Rattle.wasi_p1_types.specs.Guest.{Guest}
 use Rattle.wasi_p1_model.specs.Pages.{page}
-use Rattle.wasi_p1_types.specs.Parts.{start_in, room_for, link_into}
+use Rattle.wasi_p1_types.specs.SpecParts.{start_in, room_for, link_into}
 use Rattle.wasi_p1_types.specs.Request.{ListDirectory}
 
 -- A number that isn't a directory's is refused `badf`; then a descriptor more than may be live traps; then as the listing

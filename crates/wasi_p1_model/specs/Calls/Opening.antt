@@ -4,7 +4,7 @@ use Rattle.wasi_fs.specs.Calls.{opens}
 use Rattle.wasi_fs.specs.OpenHow.{may_open, mode_of}
 use Rattle.wasi_p1_types.specs.Front.{CallFront, free, ask, charged_text, ◌>>=◌}
 use Rattle.wasi_p1_types.specs.Guest.{Guest}
-use Rattle.wasi_p1_types.specs.Parts.{directory_in, room_for, permit, opened_in}
+use Rattle.wasi_p1_types.specs.SpecParts.{directory_in, room_for, permit, opened_in}
 use Rattle.wasi_p1_types.specs.RawFlags.{modes_in, modes_under, open_how}
 use Rattle.wasi_p1_types.specs.Request.{Path}
 use Rattle.wasi_p1_types.specs.Spending.{making}

@@ -5,7 +5,7 @@ use Rattle.wasi_guest.specs.declared.answer.Value.TheVariants.{Number}
 use Rattle.wasi_guest.specs.declared.event.Event.{Event}
 use Rattle.wasi_p1_types.specs.Front.{CallFront, answer, ask, charge, free, ◌>>=◌}
 use Rattle.wasi_p1_types.specs.Guest.{Guest}
-use Rattle.wasi_p1_types.specs.Parts.{room_for}
+use Rattle.wasi_p1_types.specs.SpecParts.{room_for}
 use Rattle.wasi_p1_types.specs.Polling.{some_asked, lists_within, all_waited, earliest, files_named, nodes_read, clocks_at, with_clocks, events, with_events}
 use Rattle.wasi_p1_types.specs.Request.{Sizes}
 use Rattle.wasi_p1_types.specs.CallResult.{made_of_reply, give}
@@ -14,8 +14,8 @@ use Rattle.wasi_p1_types.specs.declared.awaited.Waited.{Waited}
 
 -- how many events there are; they stand in memory, and the clocks so
 abbrev pub tell_events : ℕ → Clocks → Guest → List Event → Value × Guest
-tell_events at clocks g told =
-    (Number (length told), record g { memory = with_events g.memory at told; holdings = with_clocks g.holdings clocks })
+tell_events at clocks g modelled =
+    (Number (length modelled), record g { memory = with_events g.memory at modelled; holdings = with_clocks g.holdings clocks })
 
 -- an event of each that has come by then, with the sizes of the files that are read
 abbrev pub tell_ready : ℕ → List Waited → Clocks → Guest → List ℕ → Value × Guest

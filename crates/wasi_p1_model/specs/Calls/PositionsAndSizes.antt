@@ -9,7 +9,7 @@ use Rattle.wasi_host.specs.HostCall.{Advise, SetSize, Stat, Sync}
 use Rattle.wasi_p1_types.specs.Files.{base_in, file_in, host_advice, position_from, sought}
 use Rattle.wasi_p1_types.specs.Front.{CallFront, free, done_if, known_or_asked, tells, ◌>>=◌}
 use Rattle.wasi_p1_types.specs.Guest.{Guest, OpenFile}
-use Rattle.wasi_p1_types.specs.Parts.{held_by}
+use Rattle.wasi_p1_types.specs.SpecParts.{held_by}
 use Rattle.wasi_p1_types.specs.Quotas.{allowance}
 use Rattle.wasi_p1_types.specs.RawFlags.{or_inval}
 use Rattle.wasi_p1_types.specs.Request.{Direct}

@@ -7,7 +7,7 @@ use Rattle.wasi_host.specs.HostCall.{Pread}
 use Rattle.wasi_p1_types.specs.Files.{file_in, read_place_in}
 use Rattle.wasi_p1_types.specs.Front.{CallFront, free, answer, ask, at_buffer, ◌>>=◌}
 use Rattle.wasi_p1_types.specs.Guest.{Guest, OpenFile}
-use Rattle.wasi_p1_types.specs.Parts.{Source, input, from, source_in, Sink, output, into, sink_in, held_by, may_write, at_position, with_file}
+use Rattle.wasi_p1_types.specs.SpecParts.{ReadTarget, input, from, read_target_in, WriteTarget, output, into, write_target_in, held_by, may_write, at_position, with_file}
 use Rattle.wasi_p1_model.specs.Putting.{put_call, count_in, put_request, put_in, put_answer}
 use Rattle.wasi_p1_types.specs.Quotas.{allowance}
 use Rattle.wasi_p1_types.specs.Request.{Direct}
@@ -42,7 +42,7 @@ fd_pwrite g fd iovs n offset =
     at_buffer g (file_in WriteAt (slice_get g.slots fd)) iovs n (λ f _ piece. write_into g f offset piece)
 
 -- a buffer is filled from the standard input, or from a file, as its host refuses: the position is behind the bytes
-abbrev pub read_from : Guest → ℕ → Source → Iovec → CallFront
+abbrev pub read_from : Guest → ℕ → ReadTarget → Iovec → CallFront
 read_from g fd input buffer = do
   read ← free (input_into g.memory g.holdings buffer)
   answer (Number read.0, record g { memory = read.1.0; holdings = read.1.1 })
@@ -56,12 +56,12 @@ read_from g fd (from f) buffer = ask (Direct (Pread (held_by f) f.position buffe
 -- of a number that is a file's or the standard input's; the answer is the number of bytes that were read
 unfoldable pub fd_read : Guest → ℕ → ℕ → ℕ → CallFront
 fd_read g fd iovs n =
-    at_buffer g (source_in (slice_get g.slots fd)) iovs n (λ source buffer _. read_from g fd source buffer)
+    at_buffer g (read_target_in (slice_get g.slots fd)) iovs n (λ source buffer _. read_from g fd source buffer)
 
 -- A piece goes to an output, or into a file, as its host refuses, and before that read-only permissions `badf`, and what
 -- passes the bound on bytes `dquot`. The position is behind the bytes; in append mode they go behind the last byte, and
 -- the position is the file's size
-abbrev pub write_to : Guest → ℕ → Sink → List ℕ → CallFront
+abbrev pub write_to : Guest → ℕ → WriteTarget → List ℕ → CallFront
 write_to g fd (output o) piece =
     answer (Number (length piece), record g { holdings = written g.holdings o piece })
 write_to g fd (into f) piece = do
@@ -72,4 +72,4 @@ write_to g fd (into f) piece = do
 -- of a number that is a file's or an output's; the answer is the number of bytes that were taken
 unfoldable pub fd_write : Guest → ℕ → ℕ → ℕ → CallFront
 fd_write g fd iovs n =
-    at_buffer g (sink_in (slice_get g.slots fd)) iovs n (λ sink _ piece. write_to g fd sink piece)
+    at_buffer g (write_target_in (slice_get g.slots fd)) iovs n (λ sink _ piece. write_to g fd sink piece)

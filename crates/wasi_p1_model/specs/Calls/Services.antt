@@ -6,7 +6,7 @@ use Rattle.wasi_guest.specs.declared.answer.Value.TheVariants.{Number, Unit as N
 use Rattle.wasi_guest.specs.declared.errno.Errno.TheVariants as errnos
 use Rattle.wasi_p1_types.specs.Front.{CallFront, free, answer, tells, ◌>>=◌}
 use Rattle.wasi_p1_types.specs.Guest.{Guest}
-use Rattle.wasi_p1_types.specs.Parts.{range, live_in}
+use Rattle.wasi_p1_types.specs.SpecParts.{range, live_in}
 use Rattle.wasi_p1_types.specs.RawFlags.{or_inval}
 use Rattle.wasi_p1_types.specs.CallResult.{CallResult, give}
 use Rattle.wasi_p1_types.specs.Services.{sizes_of, texts_at, clock_res, clock_time, exit_with, known_signal, random_bytes, random_taken}

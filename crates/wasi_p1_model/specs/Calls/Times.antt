@@ -6,7 +6,7 @@ use Rattle.wasi_host.specs.HostCall.{SetTimes}
 use Rattle.wasi_p1_types.specs.Front.{CallFront, free, at_path, done_if, ◌>>=◌}
 use Rattle.wasi_p1_types.specs.Guest.{Guest}
 use Rattle.wasi_p1_types.specs.NewTimes.{times_asked}
-use Rattle.wasi_p1_types.specs.Parts.{open_node_in}
+use Rattle.wasi_p1_types.specs.SpecParts.{open_node_in}
 use Rattle.wasi_p1_types.specs.RawFlags.{follow_asked}
 use Rattle.wasi_p1_types.specs.Request.{Path, Direct}
 use Rattle.wasi_resolve.specs.PathRequest.{TimesPath}

@@ -35,8 +35,8 @@ pub fn drop_item<H: Host>(fs: &mut WasiFilesystemCtx<H>, table: &mut ResourceTab
     ensures faults { H.faults fs.new.host ≡ H.faults fs.old.host }
     ensures logged { H.lookups fs.new.host ≡ H.lookups fs.old.host }
     ensures live { H.live fs.new.host ≡ without (H.live fs.old.host) (handle_in (slot_in table.old.entries item)) }
-    ensures told { IsTrue H.told → Rests (H.live fs.old.host) (H.live fs.new.host) (H.world fs.old.host)
-        (H.world fs.new.host) }
+    ensures modelled { IsTrue H.modelled → Rests (H.live fs.old.host) (H.live fs.new.host) (H.model fs.old.host)
+        (H.model fs.new.host) }
     ensures entries { table.new.entries ≡ without_item table.old.entries item }
     ensures spare { table.new.spare ≡ table.old.spare + 1 }
     ensures max { table.new.max ≡ table.old.max }

@@ -1,7 +1,7 @@
 //! The calls of a view that put something new into its table.
 ghost use Rattle.std.specs.Prelude.{◌≡◌, true, IsTrue, None, IfOk};
 ghost use Rattle.std.specs.FinSet.{contains};
-ghost use Rattle.wasi_host.specs.Lineage.{HasProvenance, Only, Nothing};
+ghost use Rattle.wasi_host.specs.Provenance.{HasProvenance, Only, Nothing};
 ghost use Rattle.wasi_host.specs.HostLaws.{HasCause};
 ghost use Rattle.wasi_resolve.specs.PathRequest.{meant_by};
 ghost use Rattle.wasi_resolve.specs.Resolved.{Resolved};
@@ -33,15 +33,15 @@ fn open_below<H: Host>(
     requires live { contains (H.live host.old) dir.now.dir ≡ true }
     ensures cause { HasCause (H.faults host.old) (H.faults host.new) result }
     ensures live { LiveOpened (H.live host.old) result (H.live host.new) }
-    ensures lineage { HasProvenance (Only dir.now.dir) Nothing (GotOpened result) (H.lookups host.old) (H.lookups host.new) }
+    ensures provenance { HasProvenance (Only dir.now.dir) Nothing (GotOpened result) (H.lookups host.old) (H.lookups host.new) }
     ensures perms { IfOk result (λ d. perms_of d ≡ dir.now.perms) }
     ensures mode { IfOk result (λ d. open_mode_of d ≡ mode_of (how_named path_flags oflags flags)) }
     ensures kind { IfOk result (IsAsked (how_named path_flags oflags flags).directory) }
     ensures permit { Refuses (may_open (how_named path_flags oflags flags) dir.now.perms) result host.old host.new }
-    ensures told { IsTrue H.told → may_open (how_named path_flags oflags flags) dir.now.perms ≡ None
-        → Resolved (H.live host.old) (H.world host.old) (H.world host.new) (meant_by (H.world host.old).tree
-        (opens ((H.world host.old).held dir.now.dir).node path.now (how_named path_flags oflags flags)))
-        (opened_of (H.world host.new).held) result }
+    ensures modelled { IsTrue H.modelled → may_open (how_named path_flags oflags flags) dir.now.perms ≡ None
+        → Resolved (H.live host.old) (H.model host.old) (H.model host.new) (meant_by (H.model host.old).tree
+        (opens ((H.model host.old).held dir.now.dir).node path.now (how_named path_flags oflags flags)))
+        (opened_of (H.model host.new).held) result }
 {
     let path_flags = wasi_fs::PathFlags::from(path_flags);
     let oflags = wasi_fs::OpenFlags::from(oflags);

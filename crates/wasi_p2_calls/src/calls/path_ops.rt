@@ -1,6 +1,6 @@
 //! The calls of a view at a path below a directory.
 ghost use Rattle.std.specs.Prelude.{◌≡◌};
-ghost use Rattle.wasi_p2_calls.specs.Places.{CreatesDirectory, RemovesDirectory, UnlinksFile, MakesLink, TellsLink, StatsAt, HashesAt, SetsTimesAt};
+ghost use Rattle.wasi_p2_calls.specs.PathOps.{CreatesDirectory, RemovesDirectory, UnlinksFile, MakesLink, TellsLink, StatsAt, HashesAt, SetsTimesAt};
 ghost use Rattle.wasi_p2_calls.specs.Views.{FilesOwned, files_of};
 
 use crate::lookup::{directory_at, raised};

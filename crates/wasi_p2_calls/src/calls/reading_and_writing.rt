@@ -25,9 +25,9 @@ fn read_bytes<H: Host>(
 ) -> Result<Result<Vec<u8>, wasi_host::ErrorCode>, AllocError>
     requires live { contains (H.live host.old) file ≡ true }
     ensures same { OnErr result (host.new ≡ host.old) }
-    ensures reads { IfOk result (λ reply. HasRead H.told
-        (host_seen H.faults H.live H.lookups H.world host.old)
-        (host_seen H.faults H.live H.lookups H.world host.new)
+    ensures reads { IfOk result (λ reply. HasRead H.modelled
+        (host_seen H.faults H.live H.lookups H.model host.old)
+        (host_seen H.faults H.live H.lookups H.model host.new)
         file offset len (result_map_both (λ bytes. bytes.items) (λ code. code) reply)) }
 {
     let mut bytes = vec![in alloc; 0; len.min(MAX_READ_SIZE_ALLOC as u64) as usize]?;

@@ -1,6 +1,6 @@
 //! The calls of a view that name a place below another directory too.
 ghost use Rattle.std.specs.Prelude.{◌≡◌};
-ghost use Rattle.wasi_p2_calls.specs.Places.{LinksAt, RenamesAt};
+ghost use Rattle.wasi_p2_calls.specs.PathOps.{LinksAt, RenamesAt};
 ghost use Rattle.wasi_p2_calls.specs.Views.{FilesOwned, files_of};
 
 use crate::lookup::{directory_at, raised};

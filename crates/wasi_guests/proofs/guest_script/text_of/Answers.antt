@@ -2,9 +2,9 @@ use Rattle.std.proofs.Common.{◌≡◌, ◌∙◌, length, map, ap}
 use Rattle.std.proofs.lemmas.List.{length-map}
 use Rattle.std.proofs.lemmas.Result.{err_from_is_err_and}
 use Rattle.wasi_form.specs.Plan.{guests_plan}
-use Rattle.wasi_tree.specs.Given.{tree_of}
+use Rattle.wasi_tree.specs.NodeData.{tree_of}
 use Rattle.wasi_guests.specs.Alone.{ended, starting}
-use Rattle.wasi_guests.specs.AsIfAlone.{directories_given}
+use Rattle.wasi_guests.specs.AsIfAlone.{preopen_directories}
 use Rattle.wasi_guests.specs.GuestScript.{ends_told, guest_of}
 use Rattle.wasi_guests.proofs.ScriptLemmas.{all_may_begin, all_pieces, all_shown, comes_to_none, comes_to_text, insides_same, shown_items, shows_same, starts_same}
 use Rattle.wasi_guests.proofs.guest_script.text_of.Goals as goal
@@ -30,7 +30,7 @@ returns-in_err-outcome g c =
     let error = err_from_is_err_and residual.result residual.ensures.1 in
     let script = c.args.script in
     rw (error.1, error.2) (comes_to_none (guests_plan script) c.in_ok-tree.ensures.tree
-    (ap (map directories_given) c.in_ok-guests.ensures.guests
+    (ap (map preopen_directories) c.in_ok-guests.ensures.guests
     ∙ insides_same script.nodes.nodes script.nodes.limits script.guests.items) _ _ c.in_err-outcome.ensures.outcome)
 
 pub outcomes_of-requires : goal.outcomes_of-requires
@@ -49,7 +49,7 @@ returns g c =
     let guests = c.in_ok-guests.ensures in
     let came = c.in_ok-outcome.ensures.outcome in
     comes_to_text (guests_plan script) tree
-    (ap (map directories_given) guests.guests ∙ insides_same nodes limits script.guests.items)
+    (ap (map preopen_directories) guests.guests ∙ insides_same nodes limits script.guests.items)
     (ap (λ t. map (starting t) c.in_ok-guests.field-0.guests.items) tree ∙ ap (map (starting (tree_of nodes limits))) guests.guests
     ∙ starts_same nodes limits script.guests.items)
     (c.in_ok-told.ensures ∙ ap (λ shows. ends_told shows (map ended c.in_ok-outcome.outcome.guests.items))

@@ -6,9 +6,9 @@ use Rattle.wasi_guests.proofs.TopLemmas.{read_whole, unread, unread_some, no_scr
 use Rattle.wasi_guests.proofs.program.read_from.Goals as goal
 
 pub returns-in_err-buffer-clause-read : goal.returns-in_err-buffer-clause-read
-returns-in_err-buffer-clause-read g c = λ told.
+returns-in_err-buffer-clause-read g c = λ modelled.
     let error = err_from_is_err_and c.from_residual.result c.from_residual.ensures.1 in
-    rw (error.1, error.2) (unread _ _ _ (c.in_err-buffer.ensures.bytes told))
+    rw (error.1, error.2) (unread _ _ _ (c.in_err-buffer.ensures.bytes modelled))
 
 pub returns-in_err-buffer-clause-some : goal.returns-in_err-buffer-clause-some
 returns-in_err-buffer-clause-some g c =
@@ -16,10 +16,10 @@ returns-in_err-buffer-clause-some g c =
     rw (error.1, error.2) (unread_some _)
 
 pub returns-in_err-read_guest_script-clause-read : goal.returns-in_err-read_guest_script-clause-read
-returns-in_err-read_guest_script-clause-read g c = λ told.
+returns-in_err-read_guest_script-clause-read g c = λ modelled.
     let residual = c.from_residual-in_err-read_guest_script in
     let error = err_from_is_err_and residual.result residual.ensures.1 in
-    let all = c.in_ok-buffer.ensures.bytes told in
+    let all = c.in_ok-buffer.ensures.bytes modelled in
     let reads = rw c.as_slice.ensures.value at c.in_err-read_guest_script.ensures.verdict in
     rw (error.1, error.2) (no_script _ reads all.0 all.1 all.2)
 
@@ -37,8 +37,8 @@ returns-clause-can_run g c = record {
 }
 
 pub returns-clause-read : goal.returns-clause-read
-returns-clause-read g c = λ told.
-    let all = c.in_ok-buffer.ensures.bytes told in
+returns-clause-read g c = λ modelled.
+    let all = c.in_ok-buffer.ensures.bytes modelled in
     let reads = rw c.as_slice.ensures.value at c.in_ok-read_guest_script.ensures.verdict in
     read_whole reads all.0 all.1 all.2
 

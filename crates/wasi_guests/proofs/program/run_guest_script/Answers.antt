@@ -35,18 +35,18 @@ returns-else-is_run-clause-exact g c = λ tells.
     rw is (status_due false (g.S.Source.left c.args.source.now) the_usage tt c.write_under.ensures.written)
 
 pub returns-else-is_run-clause-usage_line : goal.returns-else-is_run-clause-usage_line
-returns-else-is_run-clause-usage_line g c = λ told other.
-    takes extent refl refl (IsText the_usage) told c.as_bytes.ensures.value c.write_under.ensures.written
+returns-else-is_run-clause-usage_line g c = λ modelled other.
+    takes extent refl refl (IsText the_usage) modelled c.as_bytes.ensures.value c.write_under.ensures.written
 
 pub returns-else-is_run-clause-nothing : goal.returns-else-is_run-clause-nothing
-returns-else-is_run-clause-nothing g c = λ told. may_take extent refl refl c.write_under.ensures.written
+returns-else-is_run-clause-nothing g c = λ modelled. may_take extent refl refl c.write_under.ensures.written
 
 pub returns-else-is_run-clause-writes : goal.returns-else-is_run-clause-writes
-returns-else-is_run-clause-writes g c = λ tells told.
+returns-else-is_run-clause-writes g c = λ tells modelled.
     let is = rw c.as_slice.ensures.value at (sym c.if-is_run.ensures) in
-    rw is (text_due false (g.S.Source.left c.args.source.now) the_usage tt c.write_under.ensures.written told c.as_bytes.ensures.value)
+    rw is (text_due false (g.S.Source.left c.args.source.now) the_usage tt c.write_under.ensures.written modelled c.as_bytes.ensures.value)
 
 pub returns-else-is_run-clause-some : goal.returns-else-is_run-clause-some
-returns-else-is_run-clause-some g c = λ told.
+returns-else-is_run-clause-some g c = λ modelled.
     let is = rw c.as_slice.ensures.value at (sym c.if-is_run.ensures) in
-    rw is (([], text_due false [] the_usage tt c.write_under.ensures.written told c.as_bytes.ensures.value))
+    rw is (([], text_due false [] the_usage tt c.write_under.ensures.written modelled c.as_bytes.ensures.value))

@@ -2,7 +2,7 @@ use Rattle.std.proofs.Common.{◌≡◌, ℕ, ap, arith, length, map, sym, ◌�
 use Rattle.std.proofs.lemmas.List.{length-map}
 use Rattle.std.proofs.lemmas.Simd.{map-map}
 use Rattle.wasi_host.specs.Tree.{next_of}
-use Rattle.wasi_tree.specs.Given.{given, given_of}
+use Rattle.wasi_tree.specs.NodeData.{node_data, data_of_node}
 use Rattle.wasi_guests.specs.Alone.{End, ended, starting}
 use Rattle.wasi_guests.specs.Between.{end_of}
 use Rattle.wasi_guests.proofs.ApartLemmas.{are_within, as_if_alone, begun_count, begun_rooms, none_at, sizes_kept}
@@ -23,9 +23,9 @@ joined-requires-clause-within c =
     let tree = c.args.base.now.tree in
     let count : next_of tree ≡ c.len.result = omega (
       arith,
-      length-map tree.nodes given_of,
+      length-map tree.nodes data_of_node,
       ap length c.in_ok-nodes.ensures.nodes,
-      length-map c.in_ok-nodes.nodes.items given,
+      length-map c.in_ok-nodes.nodes.items node_data,
       c.len.ensures,
     ) in
     let are = c.in_ok-made.ensures tree (map (starting tree) c.args.guests.items) count
@@ -37,9 +37,9 @@ joined-requires-clause-made c =
     let tree = c.args.base.now.tree in
     let count : next_of tree ≡ c.len.result = omega (
       arith,
-      length-map tree.nodes given_of,
+      length-map tree.nodes data_of_node,
       ap length c.in_ok-nodes.ensures.nodes,
-      length-map c.in_ok-nodes.nodes.items given,
+      length-map c.in_ok-nodes.nodes.items node_data,
       c.len.ensures,
     ) in
     let are = c.in_ok-made.ensures tree (map (starting tree) c.args.guests.items) count
@@ -51,9 +51,9 @@ returns-clause-alone c =
     let tree = c.args.base.now.tree in
     let count : next_of tree ≡ c.len.result = omega (
       arith,
-      length-map tree.nodes given_of,
+      length-map tree.nodes data_of_node,
       ap length c.in_ok-nodes.ensures.nodes,
-      length-map c.in_ok-nodes.nodes.items given,
+      length-map c.in_ok-nodes.nodes.items node_data,
       c.len.ensures,
     ) in
     let are = c.in_ok-made.ensures tree (map (starting tree) c.args.guests.items) count
@@ -72,9 +72,9 @@ returns-clause-sizes c =
     let tree = c.args.base.now.tree in
     let count : next_of tree ≡ c.len.result = omega (
       arith,
-      length-map tree.nodes given_of,
+      length-map tree.nodes data_of_node,
       ap length c.in_ok-nodes.ensures.nodes,
-      length-map c.in_ok-nodes.nodes.items given,
+      length-map c.in_ok-nodes.nodes.items node_data,
       c.len.ensures,
     ) in
     let are = c.in_ok-made.ensures tree (map (starting tree) c.args.guests.items) count

@@ -4,7 +4,7 @@ use Rattle.wasi_io.proofs.reading.read_by.Given as goal
 
 abbrev pub invariant-loop-all : goal.invariant-loop-all
 invariant-loop-all g l = record {
-  left : IsTrue g.S.Source.told → g.S.Source.left l.fn.source ≡ l.all.items ++ g.S.Source.left l.source;
+  left : IsTrue g.S.Source.modelled → g.S.Source.left l.fn.source ≡ l.all.items ++ g.S.Source.left l.source;
   count : g.S.Source.faults l.fn.source ≤ g.S.Source.faults l.source;
   short : length l.all.items ≤ MOST_BYTES + 1;
 }

@@ -1,7 +1,7 @@
 use Rattle.wasi_p1.proofs.run.call_with.Goals as goal
 
 pub returns-clause-spec : goal.returns-clause-spec
-returns-clause-spec g c = λ told. rw c.set_hostcall_fuel.ensures.set at (c.call.ensures.spec.turn told)
+returns-clause-spec g c = λ modelled. rw c.set_hostcall_fuel.ensures.set at (c.call.ensures.spec.turn modelled)
 
 pub returns-clause-wants : goal.returns-clause-wants
 returns-clause-wants g c = c.call.ensures.spec.wants
@@ -11,6 +11,6 @@ returns-clause-slots g c = rw c.set_hostcall_fuel.ensures.set at c.call.ensures.
 
 pub returns-clause-does : goal.returns-clause-does
 returns-clause-does g c = record {
-  row = rw c.set_hostcall_fuel.ensures.set at c.call.ensures.spec;
+  call_spec = rw c.set_hostcall_fuel.ensures.set at c.call.ensures.spec;
   bounds = rw c.set_hostcall_fuel.ensures.set at c.call.ensures.host_laws;
 }

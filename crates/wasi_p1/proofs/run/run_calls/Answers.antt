@@ -20,7 +20,7 @@ use Rattle.wasi_p1.proofs.run.run_calls.Goals as goal
 -- ---- no call yet
 
 pub returns-in_default-clause-memory : goal.returns-in_default-clause-memory
-returns-in_default-clause-memory g c = λ told. stood_first
+returns-in_default-clause-memory g c = λ modelled. stood_first
 
 pub returns-in_default-clause-until : goal.returns-in_default-clause-until
 returns-in_default-clause-until g c = none_until
@@ -32,11 +32,11 @@ loop-one-init g c = record {
   goes = rw c.in-Ok.ensures.empty tt;
   handles = refl;
   slots = all_stay refl;
-  lineage = traced_none _ _ _ _ _ refl (λ h has. has);
-  run = λ told. rw c.in-Ok.ensures.empty nothing_yet;
-  touched = λ told n was. was;
-  confined = λ told start is. is;
-  valid = λ told start. start;
+  provenance = traced_none _ _ _ _ _ refl (λ h has. has);
+  run = λ modelled. rw c.in-Ok.ensures.empty nothing_yet;
+  touched = λ modelled n was. was;
+  confined = λ modelled start is. is;
+  valid = λ modelled start. start;
   done = rw c.in-Ok.ensures.empty none_done;
   later = omega arith;
   most = refl;
@@ -61,18 +61,18 @@ loop-one-preserved g c = record {
       stay_on c.loop-one.one-index (slice_get-get_or c.args.calls.now.items c.loop-one.one-index (ArgsGet 0 0) within)
       (Contains-get_or _ _ _ within) c.loop-one.invariant.done c.loop-one.invariant.slots
       (rw c.deref-one-items.ensures.value at c.call_with-outcome.ensures.slots);
-  lineage = traced_on _ _ c.call_with-outcome.ensures.host_laws.lineage c.loop-one.invariant.lineage;
-  run = λ told.
+  provenance = traced_on _ _ c.call_with-outcome.ensures.host_laws.provenance c.loop-one.invariant.provenance;
+  run = λ modelled.
       let within : c.loop-one.one-index < length c.args.calls.now.items = omega arith in
       let one = call_at c.args.fuel c.args.calls.now.items c.loop-one.one-index (ArgsGet 0 0) within in
-      let on = turned_on (sym c.in-Some.ensures) c.call_with-outcome.ensures.host_laws.cause (c.call_with-outcome.ensures.spec told)
-      (c.loop-one.invariant.run told) (sym c.ends_run.ensures ∙ c.if-ends_run.false) in
+      let on = turned_on (sym c.in-Some.ensures) c.call_with-outcome.ensures.host_laws.cause (c.call_with-outcome.ensures.spec modelled)
+      (c.loop-one.invariant.run modelled) (sym c.ends_run.ensures ∙ c.if-ends_run.false) in
       rw (c.push.ensures.answers, one) (rw c.deref-one-items.ensures.value at on);
-  touched = λ told n was.
-      (c.call_with-outcome.ensures.spec told).touched.stays n (c.loop-one.invariant.touched told n was);
-  confined = λ told start is.
-      turn_confines (c.call_with-outcome.ensures.spec told) (c.loop-one.invariant.confined told start is);
-  valid = λ told start. turn_valid (c.call_with-outcome.ensures.spec told) (c.loop-one.invariant.valid told start);
+  touched = λ modelled n was.
+      (c.call_with-outcome.ensures.spec modelled).touched.stays n (c.loop-one.invariant.touched modelled n was);
+  confined = λ modelled start is.
+      turn_confines (c.call_with-outcome.ensures.spec modelled) (c.loop-one.invariant.confined modelled start is);
+  valid = λ modelled start. turn_valid (c.call_with-outcome.ensures.spec modelled) (c.loop-one.invariant.valid modelled start);
   done =
       let within : c.loop-one.one-index < length c.args.calls.now.items = omega arith in
       let one = take_more c.args.calls.now.items c.loop-one.one-index (ArgsGet 0 0) within in
@@ -93,15 +93,15 @@ returns-in-None-clause-size g c = c.call_with-outcome.ensures.size ∙ c.loop-on
 pub returns-in-None-clause-handles : goal.returns-in-None-clause-handles
 returns-in-None-clause-handles g c = c.call_with-outcome.ensures.host_laws.handles ∙ c.loop-one.invariant.handles
 
-pub returns-in-None-clause-lineage : goal.returns-in-None-clause-lineage
-returns-in-None-clause-lineage g c = traced_on _ _ c.call_with-outcome.ensures.host_laws.lineage c.loop-one.invariant.lineage
+pub returns-in-None-clause-provenance : goal.returns-in-None-clause-provenance
+returns-in-None-clause-provenance g c = traced_on _ _ c.call_with-outcome.ensures.host_laws.provenance c.loop-one.invariant.provenance
 
 pub returns-in-None-clause-memory : goal.returns-in-None-clause-memory
-returns-in-None-clause-memory g c = λ told.
+returns-in-None-clause-memory g c = λ modelled.
     let n : c.len-in-None.result ≡ length c.loop-one.answers.answers = c.len-in-None.ensures.count in
     let at : c.loop-one.one-index ≡ c.len-in-None.result = sym (n ∙ c.loop-one.invariant.count) in
-    stood (sym c.in-None.ensures) c.call_with-outcome.ensures.host_laws.cause (c.call_with-outcome.ensures.spec told) (sym n)
-    c.loop-one.invariant.goes (rw at at (c.loop-one.invariant.run told))
+    stood (sym c.in-None.ensures) c.call_with-outcome.ensures.host_laws.cause (c.call_with-outcome.ensures.spec modelled) (sym n)
+    c.loop-one.invariant.goes (rw at at (c.loop-one.invariant.run modelled))
 
 pub returns-in-None-clause-until : goal.returns-in-None-clause-until
 returns-in-None-clause-until g c =
@@ -130,16 +130,16 @@ returns-in-None-clause-slots g c =
     (rw c.deref-one-items.ensures.value at c.call_with-outcome.ensures.slots)
 
 pub returns-in-None-clause-touched : goal.returns-in-None-clause-touched
-returns-in-None-clause-touched g c = λ told n was.
-    (c.call_with-outcome.ensures.spec told).touched.stays n (c.loop-one.invariant.touched told n was)
+returns-in-None-clause-touched g c = λ modelled n was.
+    (c.call_with-outcome.ensures.spec modelled).touched.stays n (c.loop-one.invariant.touched modelled n was)
 
 pub returns-in-None-clause-confined : goal.returns-in-None-clause-confined
-returns-in-None-clause-confined g c = λ told start is.
-    turn_confines (c.call_with-outcome.ensures.spec told) (c.loop-one.invariant.confined told start is)
+returns-in-None-clause-confined g c = λ modelled start is.
+    turn_confines (c.call_with-outcome.ensures.spec modelled) (c.loop-one.invariant.confined modelled start is)
 
 pub returns-in-None-clause-valid : goal.returns-in-None-clause-valid
-returns-in-None-clause-valid g c = λ told start.
-    turn_valid (c.call_with-outcome.ensures.spec told) (c.loop-one.invariant.valid told start)
+returns-in-None-clause-valid g c = λ modelled start.
+    turn_valid (c.call_with-outcome.ensures.spec modelled) (c.loop-one.invariant.valid modelled start)
 
 -- ---- an answer that ends the run
 
@@ -159,15 +159,15 @@ returns-then-ends_run-clause-ios g c =
 pub returns-then-ends_run-clause-handles : goal.returns-then-ends_run-clause-handles
 returns-then-ends_run-clause-handles g c = c.call_with-outcome.ensures.host_laws.handles ∙ c.loop-one.invariant.handles
 
-pub returns-then-ends_run-clause-lineage : goal.returns-then-ends_run-clause-lineage
-returns-then-ends_run-clause-lineage g c = traced_on _ _ c.call_with-outcome.ensures.host_laws.lineage c.loop-one.invariant.lineage
+pub returns-then-ends_run-clause-provenance : goal.returns-then-ends_run-clause-provenance
+returns-then-ends_run-clause-provenance g c = traced_on _ _ c.call_with-outcome.ensures.host_laws.provenance c.loop-one.invariant.provenance
 
 pub returns-then-ends_run-clause-run : goal.returns-then-ends_run-clause-run
-returns-then-ends_run-clause-run g c = λ told.
+returns-then-ends_run-clause-run g c = λ modelled.
     let within : c.loop-one.one-index < length c.args.calls.now.items = omega arith in
     let all = calls_at c.args.fuel c.args.calls.now.items c.loop-one.one-index (ArgsGet 0 0) within in
-    let on = ended (sym c.in-Some.ensures) c.call_with-outcome.ensures.host_laws.cause (c.call_with-outcome.ensures.spec told)
-    (c.loop-one.invariant.run told) (drop (c.loop-one.one-index + 1) (map (with_fuel c.args.fuel) c.args.calls.now.items))
+    let on = ended (sym c.in-Some.ensures) c.call_with-outcome.ensures.host_laws.cause (c.call_with-outcome.ensures.spec modelled)
+    (c.loop-one.invariant.run modelled) (drop (c.loop-one.one-index + 1) (map (with_fuel c.args.fuel) c.args.calls.now.items))
     (sym c.ends_run.ensures ∙ c.if-ends_run.true) in
     rw (c.push.ensures.answers) (rw (c.deref-one-items.ensures.value, all) at on)
 
@@ -180,10 +180,10 @@ returns-then-ends_run-clause-in_turn g c =
     rw c.push.ensures.answers (rw (c.deref-one-items.ensures.value, all) at last)
 
 pub returns-then-ends_run-clause-agree : goal.returns-then-ends_run-clause-agree
-returns-then-ends_run-clause-agree g c = λ told never. did_same (returns-then-ends_run-clause-run g c told) never
+returns-then-ends_run-clause-agree g c = λ modelled never. did_same (returns-then-ends_run-clause-run g c modelled) never
 
 pub returns-then-ends_run-clause-errnos : goal.returns-then-ends_run-clause-errnos
-returns-then-ends_run-clause-errnos g c = λ told. did_errnos (returns-then-ends_run-clause-run g c told)
+returns-then-ends_run-clause-errnos g c = λ modelled. did_errnos (returns-then-ends_run-clause-run g c modelled)
 
 pub returns-then-ends_run-clause-slots : goal.returns-then-ends_run-clause-slots
 returns-then-ends_run-clause-slots g c =
@@ -193,16 +193,16 @@ returns-then-ends_run-clause-slots g c =
     (rw c.deref-one-items.ensures.value at c.call_with-outcome.ensures.slots)
 
 pub returns-then-ends_run-clause-touched : goal.returns-then-ends_run-clause-touched
-returns-then-ends_run-clause-touched g c = λ told n was.
-    (c.call_with-outcome.ensures.spec told).touched.stays n (c.loop-one.invariant.touched told n was)
+returns-then-ends_run-clause-touched g c = λ modelled n was.
+    (c.call_with-outcome.ensures.spec modelled).touched.stays n (c.loop-one.invariant.touched modelled n was)
 
 pub returns-then-ends_run-clause-confined : goal.returns-then-ends_run-clause-confined
-returns-then-ends_run-clause-confined g c = λ told start is.
-    turn_confines (c.call_with-outcome.ensures.spec told) (c.loop-one.invariant.confined told start is)
+returns-then-ends_run-clause-confined g c = λ modelled start is.
+    turn_confines (c.call_with-outcome.ensures.spec modelled) (c.loop-one.invariant.confined modelled start is)
 
 pub returns-then-ends_run-clause-valid : goal.returns-then-ends_run-clause-valid
-returns-then-ends_run-clause-valid g c = λ told start.
-    turn_valid (c.call_with-outcome.ensures.spec told) (c.loop-one.invariant.valid told start)
+returns-then-ends_run-clause-valid g c = λ modelled start.
+    turn_valid (c.call_with-outcome.ensures.spec modelled) (c.loop-one.invariant.valid modelled start)
 
 -- ---- all calls are answered
 
@@ -213,30 +213,30 @@ pub returns-clause-answers : goal.returns-clause-answers
 returns-clause-answers g c = each_answered _ _ (simp length-map (omega arith)) c.loop-one.invariant.goes
 
 pub returns-clause-run : goal.returns-clause-run
-returns-clause-run g c = λ told.
+returns-clause-run g c = λ modelled.
     rw (take_all c.loop-one.one-index (map (with_fuel c.args.fuel) c.args.calls.now.items) (simp length-map (omega arith))) at
-    (all_done (c.loop-one.invariant.run told))
+    (all_done (c.loop-one.invariant.run modelled))
 
 pub returns-clause-errnos : goal.returns-clause-errnos
-returns-clause-errnos g c = λ told. did_errnos (returns-clause-run g c told)
+returns-clause-errnos g c = λ modelled. did_errnos (returns-clause-run g c modelled)
 
 pub returns-clause-in_turn : goal.returns-clause-in_turn
 returns-clause-in_turn g c =
     rw (take_all c.loop-one.one-index c.args.calls.now.items (omega arith)) at (done c.loop-one.invariant.done)
 
 pub returns-clause-agree : goal.returns-clause-agree
-returns-clause-agree g c = λ told never. did_same (returns-clause-run g c told) never
+returns-clause-agree g c = λ modelled never. did_same (returns-clause-run g c modelled) never
 
 -- ---- the quota
 
 pub returns-in_default-clause-quotas_so_far : goal.returns-in_default-clause-quotas_so_far
-returns-in_default-clause-quotas_so_far g c = λ told. stood_keep (returns-in_default-clause-memory g c told)
+returns-in_default-clause-quotas_so_far g c = λ modelled. stood_keep (returns-in_default-clause-memory g c modelled)
 
 pub returns-in-None-clause-quotas_so_far : goal.returns-in-None-clause-quotas_so_far
-returns-in-None-clause-quotas_so_far g c = λ told. stood_keep (returns-in-None-clause-memory g c told)
+returns-in-None-clause-quotas_so_far g c = λ modelled. stood_keep (returns-in-None-clause-memory g c modelled)
 
 pub returns-then-ends_run-clause-quotas : goal.returns-then-ends_run-clause-quotas
-returns-then-ends_run-clause-quotas g c = λ told. did_keep (returns-then-ends_run-clause-run g c told)
+returns-then-ends_run-clause-quotas g c = λ modelled. did_keep (returns-then-ends_run-clause-run g c modelled)
 
 pub returns-clause-quotas : goal.returns-clause-quotas
-returns-clause-quotas g c = λ told. did_keep (returns-clause-run g c told)
+returns-clause-quotas g c = λ modelled. did_keep (returns-clause-run g c modelled)

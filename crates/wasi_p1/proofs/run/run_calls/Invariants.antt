@@ -19,20 +19,20 @@ invariant-loop-one g l = record {
   goes : GoOn l.answers.answers;
   handles : OthersStay g.H.Host.live l.fn.context l.context;
   slots : SlotsOfRun g.H.Host l.fuel l.fn.context l.fn.memory l.calls.items l.context.slots;
-  lineage : RunTraced l.fn.context.slots l.context.slots (g.H.Host.lookups l.fn.context.host)
+  provenance : RunTraced l.fn.context.slots l.context.slots (g.H.Host.lookups l.fn.context.host)
       (g.H.Host.lookups l.context.host);
-  run : IsTrue g.H.Host.told
+  run : IsTrue g.H.Host.modelled
       → SoFar (g.H.Host.faults l.fn.context.host) (g.H.Host.faults l.context.host)
-      (state_of g.H.Host.world l.fn.context l.fn.memory)
-      (take l.one-index (map (with_fuel l.fuel) l.calls.items)) l.answers.answers (state_of g.H.Host.world l.context l.memory)
-      (g.H.Host.world l.context.host).touched;
-  touched : IsTrue g.H.Host.told
-      → StaysTouched (g.H.Host.world l.fn.context.host).touched (g.H.Host.world l.context.host).touched;
-  confined : IsTrue g.H.Host.told → (start : State)
-      → Confined start (state_of g.H.Host.world l.fn.context l.fn.memory) (g.H.Host.world l.fn.context.host).touched
-      → Confined start (state_of g.H.Host.world l.context l.memory) (g.H.Host.world l.context.host).touched;
-  valid : IsTrue g.H.Host.told → IsValidState (state_of g.H.Host.world l.fn.context l.fn.memory)
-      → IsValidState (state_of g.H.Host.world l.context l.memory);
+      (state_of g.H.Host.model l.fn.context l.fn.memory)
+      (take l.one-index (map (with_fuel l.fuel) l.calls.items)) l.answers.answers (state_of g.H.Host.model l.context l.memory)
+      (g.H.Host.model l.context.host).touched;
+  touched : IsTrue g.H.Host.modelled
+      → StaysTouched (g.H.Host.model l.fn.context.host).touched (g.H.Host.model l.context.host).touched;
+  confined : IsTrue g.H.Host.modelled → (start : State)
+      → Confined start (state_of g.H.Host.model l.fn.context l.fn.memory) (g.H.Host.model l.fn.context.host).touched
+      → Confined start (state_of g.H.Host.model l.context l.memory) (g.H.Host.model l.context.host).touched;
+  valid : IsTrue g.H.Host.modelled → IsValidState (state_of g.H.Host.model l.fn.context l.fn.memory)
+      → IsValidState (state_of g.H.Host.model l.context l.memory);
   done : DoneSoFar g.H.Host l.fuel l.fn.context l.fn.memory (take l.one-index l.calls.items) l.answers.answers l.context
       l.memory;
   later : (g.H.Host.faults l.fn.context.host).count ≤ (g.H.Host.faults l.context.host).count;

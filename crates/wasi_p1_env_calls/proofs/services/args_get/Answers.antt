@@ -8,4 +8,4 @@ pub returns-in_err-args_into-clause-spec : goal.returns-in_err-args_into-clause-
 unfolding args_get
 returns-in_err-args_into-clause-spec g c =
     rw (c.in_err-args_into.ensures.same, ← c.context.view_is) (on_err c.from_residual.ensures.1 (refused refl
-    (rw (← unit_refused _ c.in_err-args_into.ensures.row) refl)))
+    (rw (← unit_refused _ c.in_err-args_into.ensures.specified) refl)))

@@ -6,5 +6,5 @@ use Rattle.wasi_p1_env_calls.proofs.services.args_sizes_get.Goals as goal
 pub returns-in_err-args_sizes-clause-spec : goal.returns-in_err-args_sizes-clause-spec
 unfolding args_sizes_get
 returns-in_err-args_sizes-clause-spec g c =
-    rw (← c.context.view_is) (on_err c.from_residual.ensures.1 (refused refl (rw (← c.in_err-args_sizes.ensures.row)
+    rw (← c.context.view_is) (on_err c.from_residual.ensures.1 (refused refl (rw (← c.in_err-args_sizes.ensures.specified)
     refl)))

@@ -8,4 +8,4 @@ pub returns-in_err-environ_into-clause-spec : goal.returns-in_err-environ_into-c
 unfolding environ_get
 returns-in_err-environ_into-clause-spec g c =
     rw (c.in_err-environ_into.ensures.same, ← c.context.view_is) (on_err c.from_residual.ensures.1 (refused refl
-    (rw (← unit_refused _ c.in_err-environ_into.ensures.row) refl)))
+    (rw (← unit_refused _ c.in_err-environ_into.ensures.specified) refl)))

@@ -7,6 +7,6 @@ use Rattle.wasi_p1_env_calls.proofs.services.random_get.Goals as goal
 pub returns-clause-spec : goal.returns-clause-spec
 unfolding random_get
 returns-clause-spec g c = let given = c.random_into.ensures in rw (← c.context.view_is) (answered
-    (rw (← c.in_ok-bytes_at.ensures.row, given.written, given.taken) refl)
+    (rw (← c.in_ok-bytes_at.ensures.specified, given.written, given.taken) refl)
     given.size (all_stay refl) (record { failed = refl; looked = refl })
-    (λ told. record { tree = refl; touched = refl; slots = refl }))
+    (λ modelled. record { tree = refl; touched = refl; slots = refl }))

@@ -12,7 +12,7 @@ invariant-loop-i g l = record {
   next : l.subscriptions + 48 * l.i < 2 ^ 32;
   count : length l.all.items ≡ l.i;
   live : All (λ w. OfReading (λ file. contains (g.H.Host.live l.host) file ≡ true) w.what) l.all.items;
-  left : Left l.holdings (guest_slots (g.H.Host.world l.host).held l.descriptors.slots) l.memory l.subscriptions l.count l.i
-      (kept_with (g.H.Host.world l.host).held l.all.items)
-      (all_waited l.holdings (guest_slots (g.H.Host.world l.host).held l.descriptors.slots) l.memory l.subscriptions l.count);
+  left : Left l.holdings (guest_slots (g.H.Host.model l.host).held l.descriptors.slots) l.memory l.subscriptions l.count l.i
+      (kept_with (g.H.Host.model l.host).held l.all.items)
+      (all_waited l.holdings (guest_slots (g.H.Host.model l.host).held l.descriptors.slots) l.memory l.subscriptions l.count);
 }

@@ -10,7 +10,7 @@ invariant-loop-i g l = record {
   next : l.subscriptions + 48 * l.i < 2 ^ 32;
   few : l.judged.files ≤ l.i;
   early : l.judged.earliest ≤ 2 ^ 64 - 1;
-  left : Left l.holdings (guest_slots (g.H.Host.world l.host).held l.descriptors.slots) l.memory l.subscriptions l.count l.i
+  left : Left l.holdings (guest_slots (g.H.Host.model l.host).held l.descriptors.slots) l.memory l.subscriptions l.count l.i
       (judged_with l.judged)
-      (judged_in l.holdings (guest_slots (g.H.Host.world l.host).held l.descriptors.slots) l.memory l.subscriptions l.count);
+      (judged_in l.holdings (guest_slots (g.H.Host.model l.host).held l.descriptors.slots) l.memory l.subscriptions l.count);
 }

@@ -10,16 +10,16 @@ loop-item-init g c = record {
   most = refl;
   live = refl;
   logged = refl;
-  told = λ told. none_sized c.in_ok-sizes.ensures.items;
+  modelled = λ modelled. none_sized c.in_ok-sizes.ensures.items;
 }
 
-pub returns-in_err-size-clause-told : goal.returns-in_err-size-clause-told
-returns-in_err-size-clause-told g c = λ told.
+pub returns-in_err-size-clause-modelled : goal.returns-in_err-size-clause-modelled
+returns-in_err-size-clause-modelled g c = λ modelled.
     let residual = c.from_residual-in_err-size in
     let error = err_from_is_err_and residual.result residual.ensures.1 in
     rw (error.1, error.2) (one_unsized c.item-item.result c.loop-item-test.true c.item-item.is c.loop-item.invariant.live
-    c.requires.live (c.loop-item.invariant.told told)
-    (λ rose. omega (arith, rose, c.loop-item.invariant.later)) (c.in_err-size.ensures.told told))
+    c.requires.live (c.loop-item.invariant.modelled modelled)
+    (λ rose. omega (arith, rose, c.loop-item.invariant.later)) (c.in_err-size.ensures.modelled modelled))
 
 pub returns-in_err-push_size-clause-front : goal.returns-in_err-push_size-clause-front
 returns-in_err-push_size-clause-front g c =
@@ -27,13 +27,13 @@ returns-in_err-push_size-clause-front g c =
     let error = err_from_is_err_and residual.result residual.ensures.1 in
     rw (error.1, error.2) (inl (Memory, refl))
 
-pub returns-in_err-push_size-clause-told : goal.returns-in_err-push_size-clause-told
-returns-in_err-push_size-clause-told g c = λ told.
+pub returns-in_err-push_size-clause-modelled : goal.returns-in_err-push_size-clause-modelled
+returns-in_err-push_size-clause-modelled g c = λ modelled.
     let residual = c.from_residual-in_err-push_size in
     let error = err_from_is_err_and residual.result residual.ensures.1 in
     let on = one_sized_more c.item-item.result c.loop-item-test.true c.item-item.is c.loop-item.invariant.live
-    c.requires.live (c.loop-item.invariant.told told)
-    (c.in_ok-size.ensures.told told) in
+    c.requires.live (c.loop-item.invariant.modelled modelled)
+    (c.in_ok-size.ensures.modelled modelled) in
     rw (error.1, error.2) (makes_none on.sized (inl refl))
 
 pub loop-item-preserved : goal.loop-item-preserved
@@ -42,10 +42,10 @@ loop-item-preserved g c = record {
   most = c.in_ok-size.ensures.cause.most ∙ c.loop-item.invariant.most;
   live = c.size_of.ensures.live ∙ c.loop-item.invariant.live;
   logged = c.size_of.ensures.logged ∙ c.loop-item.invariant.logged;
-  told = λ told. rw c.in_ok-push_size.ensures (one_sized_more c.item-item.result c.loop-item-test.true c.item-item.is
+  modelled = λ modelled. rw c.in_ok-push_size.ensures (one_sized_more c.item-item.result c.loop-item-test.true c.item-item.is
       c.loop-item.invariant.live c.requires.live
-      (c.loop-item.invariant.told told) (c.in_ok-size.ensures.told told));
+      (c.loop-item.invariant.modelled modelled) (c.in_ok-size.ensures.modelled modelled));
 }
 
-pub returns-clause-told : goal.returns-clause-told
-returns-clause-told g c = λ told. all_sized c.loop-item-test.false (c.loop-item.invariant.told told)
+pub returns-clause-modelled : goal.returns-clause-modelled
+returns-clause-modelled g c = λ modelled. all_sized c.loop-item-test.false (c.loop-item.invariant.modelled modelled)

@@ -10,6 +10,6 @@ invariant-loop-item g l = record {
   most : (g.H.Host.faults l.host).most ≡ (g.H.Host.faults l.fn.host).most;
   live : g.H.Host.live l.host ≡ g.H.Host.live l.fn.host;
   logged : g.H.Host.lookups l.host ≡ g.H.Host.lookups l.fn.host;
-  told : IsTrue g.H.Host.told → SizedSo (g.H.Host.live l.fn.host) (g.H.Host.world l.fn.host) (g.H.Host.world l.host) l.waited
+  modelled : IsTrue g.H.Host.modelled → SizedSo (g.H.Host.live l.fn.host) (g.H.Host.model l.fn.host) (g.H.Host.model l.host) l.waited
       l.item-index l.sizes.items;
 }

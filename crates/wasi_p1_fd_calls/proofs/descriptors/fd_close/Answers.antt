@@ -9,7 +9,7 @@ use Rattle.wasi_p1_fd_calls.proofs.descriptors.fd_close.Goals as goal
 pub returns-clause-spec : goal.returns-clause-spec
 unfolding fd_close
 returns-clause-spec g c = rw (← c.context.view_is) (answered
-    (rw (← c.in_ok-slot.ensures.row, c.close_slot.ensures.slots, c.close_slot.ensures.max, map-set) refl) refl
+    (rw (← c.in_ok-slot.ensures.specified, c.close_slot.ensures.slots, c.close_slot.ensures.max, map-set) refl) refl
     (close_stays _ (Contains-here _ []) (Contains-here _ []) c.close_slot.ensures.slots)
     (record { failed = c.close_slot.ensures.faults; looked = c.close_slot.ensures.logged })
     c.close_slot.ensures.stays)

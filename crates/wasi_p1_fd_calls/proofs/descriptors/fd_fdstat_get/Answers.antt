@@ -6,7 +6,7 @@ use Rattle.wasi_p1_types.specs.Request.{Direct}
 use Rattle.wasi_p1_types.specs.CallResult.{give}
 use Rattle.wasi_p1_model.specs.Calls.Descriptors.{fd_fdstat_get}
 use Rattle.wasi_p1_state.specs.Viewed.{descriptor_under}
-use Rattle.wasi_p1_model.proofs.RowEnds.{with_fdstat}
+use Rattle.wasi_p1_model.proofs.SpecEnds.{with_fdstat}
 use Rattle.wasi_p1_model.proofs.Taking.{makes_err, makes_ok, unchanged, on_err}
 use Rattle.wasi_p1_fd_calls.proofs.descriptors.fd_fdstat_get.Goals as goal
 
@@ -22,8 +22,8 @@ returns-in_err-fdstat-in-Directory-clause-spec g c =
     let given = c.in_err-fdstat-in-Directory.ensures in
     rw (given.same, ← c.context.view_is) (on_err c.from_residual-in_err-fdstat-in-Directory.ensures.1 (makes_err {r = Direct (Flags _)}
     (λ _. give directory_fdstat) with_fdstat
-    (rw (← c.in_ok-slot.ensures.row, c.in-Directory.is, ← c.if-is_some.ensures) refl) c.context.invariant.owned given.makes.front
-    (λ is. absurd (given.makes.never_wants is)) refl unchanged given.makes.told))
+    (rw (← c.in_ok-slot.ensures.specified, c.in-Directory.is, ← c.if-is_some.ensures) refl) c.context.invariant.owned given.makes.front
+    (λ is. absurd (given.makes.never_wants is)) refl unchanged given.makes.modelled))
 
 pub open_file_fdstat-requires : goal.open_file_fdstat-requires
 open_file_fdstat-requires g c = record {
@@ -36,22 +36,22 @@ unfolding fd_fdstat_get
 returns-in_err-fdstat-in-File-clause-spec g c =
     let given = c.in_err-fdstat-in-File.ensures in
     rw (given.same, ← c.context.view_is) (on_err c.from_residual-in_err-fdstat-in-File.ensures.1 (makes_err {r = Direct (Stat _)}
-    (λ metadata. give (file_told (open_file_of (g.H.Host.world c.context.inside.fs.host).held c.in-File.file) metadata)) with_fdstat
-    (rw (← c.in_ok-slot.ensures.row, c.in-File.is) refl) c.context.invariant.owned given.makes.front
-    (λ is. absurd (given.makes.never_wants is)) refl unchanged given.makes.told))
+    (λ metadata. give (file_told (open_file_of (g.H.Host.model c.context.inside.fs.host).held c.in-File.file) metadata)) with_fdstat
+    (rw (← c.in_ok-slot.ensures.specified, c.in-File.is) refl) c.context.invariant.owned given.makes.front
+    (λ is. absurd (given.makes.never_wants is)) refl unchanged given.makes.modelled))
 
 pub returns-in_ok-fdstat-in-Directory-clause-spec : goal.returns-in_ok-fdstat-in-Directory-clause-spec
 unfolding fd_fdstat_get
 returns-in_ok-fdstat-in-Directory-clause-spec g c =
     let given = c.in_ok-fdstat-in-Directory.ensures in
     rw (given.same, ← c.context.view_is) (makes_ok {r = Direct (Flags _)} (λ _. give directory_fdstat) with_fdstat
-    (rw (← c.in_ok-slot.ensures.row, c.in-Directory.is, ← c.if-is_some.ensures) refl)
-    c.context.invariant.owned refl given.makes.front refl refl given.makes.told)
+    (rw (← c.in_ok-slot.ensures.specified, c.in-Directory.is, ← c.if-is_some.ensures) refl)
+    c.context.invariant.owned refl given.makes.front refl refl given.makes.modelled)
 
 pub returns-in_ok-fdstat-in-File-clause-spec : goal.returns-in_ok-fdstat-in-File-clause-spec
 unfolding fd_fdstat_get
 returns-in_ok-fdstat-in-File-clause-spec g c =
     let given = c.in_ok-fdstat-in-File.ensures in
     rw (given.same, ← c.context.view_is) (makes_ok {r = Direct (Stat _)}
-    (λ metadata. give (file_told (open_file_of (g.H.Host.world c.context.inside.fs.host).held c.in-File.file) metadata)) with_fdstat
-    (rw (← c.in_ok-slot.ensures.row, c.in-File.is) refl) c.context.invariant.owned refl given.makes.front refl refl given.makes.told)
+    (λ metadata. give (file_told (open_file_of (g.H.Host.model c.context.inside.fs.host).held c.in-File.file) metadata)) with_fdstat
+    (rw (← c.in_ok-slot.ensures.specified, c.in-File.is) refl) c.context.invariant.owned refl given.makes.front refl refl given.makes.modelled)

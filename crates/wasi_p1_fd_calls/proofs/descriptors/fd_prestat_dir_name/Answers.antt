@@ -9,4 +9,4 @@ unfolding fd_prestat_dir_name
 returns-in_err-put_name-clause-spec g c =
     let given = c.in_err-put_name.ensures in
     rw (given.same, ← c.context.view_is) (on_err c.from_residual-in_err-put_name.ensures.1 (refused refl
-    (rw (← c.in_ok-live_at.ensures.row, ← c.in_ok-name.ensures.row, ← unit_refused _ given.row) refl)))
+    (rw (← c.in_ok-live_at.ensures.specified, ← c.in_ok-name.ensures.specified, ← unit_refused _ given.specified) refl)))

@@ -9,7 +9,7 @@ use Rattle.wasi_p1_fd_calls.proofs.descriptors.fd_renumber.Goals as goal
 pub returns-clause-spec : goal.returns-clause-spec
 unfolding fd_renumber
 returns-clause-spec g c = let given = c.renumber_slot.ensures in rw (← c.context.view_is) (answered
-    (rw (← c.in_ok-live_at.ensures.row, ← c.in_ok-slot.ensures.row, given.slots, given.max, renumbered-map) refl) refl
+    (rw (← c.in_ok-live_at.ensures.specified, ← c.in_ok-slot.ensures.specified, given.slots, given.max, renumbered-map) refl) refl
     (renumber_stays _ _ (Contains-here _ (_ ∷ [])) (Contains-push (_ ∷ []) _) (Contains-here _ (_ ∷ []))
     (Contains-push (_ ∷ []) _) given.slots)
     (record { failed = given.faults; looked = given.logged }) given.stays)

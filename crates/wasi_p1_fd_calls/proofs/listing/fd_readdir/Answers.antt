@@ -1,11 +1,11 @@
 use Rattle.std.proofs.Common.{◌≡◌, inl, inr, Err, refl, sym, ap}
 use Rattle.wasi_p1_model.specs.EntriesSeen.{entries_seen}
 use Rattle.wasi_p1_model.specs.Pages.{page}
-use Rattle.wasi_p1_types.specs.Parts.{text_to}
+use Rattle.wasi_p1_types.specs.SpecParts.{text_to}
 use Rattle.wasi_p1_types.specs.Request.{ListDirectory}
 use Rattle.wasi_p1_model.specs.Calls.Listing.{fd_readdir}
 use Rattle.wasi_p1_model.proofs.Resolving.{resolved_ok, resolved_err}
-use Rattle.wasi_p1_model.proofs.RowEnds.{with_text}
+use Rattle.wasi_p1_model.proofs.SpecEnds.{with_text}
 use Rattle.wasi_p1_model.proofs.Taking.{makes_err, makes_ok, on_err, refused_at, unchanged}
 use Rattle.wasi_p1_fd_calls.proofs.listing.fd_readdir.Goals as goal
 
@@ -13,7 +13,7 @@ pub returns-in_err-room_at-clause-spec : goal.returns-in_err-room_at-clause-spec
 unfolding fd_readdir
 returns-in_err-room_at-clause-spec g c =
     rw (← c.context.view_is) (on_err c.from_residual-in_err-room_at.ensures.1 (refused_at refl
-    (rw (← c.in_ok-dir.ensures.row, ← c.in_err-room_at.ensures.row) refl)))
+    (rw (← c.in_ok-dir.ensures.specified, ← c.in_err-room_at.ensures.specified) refl)))
 
 pub returns-in_err-entries-clause-spec : goal.returns-in_err-entries-clause-spec
 unfolding fd_readdir
@@ -21,10 +21,10 @@ returns-in_err-entries-clause-spec g c =
     let given = c.in_err-entries.ensures in
     rw (← c.context.view_is) (on_err c.from_residual-in_err-entries.ensures.1 (makes_err {r = ListDirectory _}
     (λ listing. text_to c.args.memory.now c.args.buf (page listing c.args.cookie c.args.buf_len)) with_text
-    (rw (← c.in_ok-dir.ensures.row, ← c.in_ok-room_at.ensures.row) refl) c.context.invariant.owned (inl (_, refl)) (λ _. refl) refl unchanged
-    (λ told. record {
-      keeps = (given.told told).keeps;
-      does = inl (resolved_err {r = ListDirectory _} _ (λ is. given.cause.io (ap Err is)) (given.told told));
+    (rw (← c.in_ok-dir.ensures.specified, ← c.in_ok-room_at.ensures.specified) refl) c.context.invariant.owned (inl (_, refl)) (λ _. refl) refl unchanged
+    (λ modelled. record {
+      keeps = (given.modelled modelled).keeps;
+      does = inl (resolved_err {r = ListDirectory _} _ (λ is. given.cause.io (ap Err is)) (given.modelled modelled));
     })))
 
 pub returns-in_err-count-clause-spec : goal.returns-in_err-count-clause-spec
@@ -34,15 +34,15 @@ returns-in_err-count-clause-spec g c =
     let put = c.in_err-count.ensures in
     let listing = entries_seen c.in_ok-entries.entries.items in
     let same : c.as_slice.result.now ≡ c.in_ok-entries.entries.items = c.as_slice.ensures.value in
-    let row = rw same at (sym put.row) in
+    let specified = rw same at (sym put.specified) in
     rw (← c.context.view_is) (on_err c.from_residual-in_err-count.ensures.1 (makes_err {r = ListDirectory _}
     (λ listing. text_to c.args.memory.now c.args.buf (page listing c.args.cookie c.args.buf_len)) with_text
-    (rw (← c.in_ok-dir.ensures.row, ← c.in_ok-room_at.ensures.row) refl) c.context.invariant.owned
-    (inr (listing, given.short, row)) (λ is. absurd (put.never_wants is)) refl
+    (rw (← c.in_ok-dir.ensures.specified, ← c.in_ok-room_at.ensures.specified) refl) c.context.invariant.owned
+    (inr (listing, given.short, specified)) (λ is. absurd (put.never_wants is)) refl
     (record { slots = refl; table_max = refl; holdings = refl; memory = put.same })
-    (λ told. record {
-      keeps = (given.told told).keeps;
-      does = inr (listing, resolved_ok {r = ListDirectory _} (given.told told), row);
+    (λ modelled. record {
+      keeps = (given.modelled modelled).keeps;
+      does = inr (listing, resolved_ok {r = ListDirectory _} (given.modelled modelled), specified);
     })))
 
 pub returns-clause-spec : goal.returns-clause-spec
@@ -52,12 +52,12 @@ returns-clause-spec g c =
     let put = c.in_ok-count.ensures in
     let listing = entries_seen c.in_ok-entries.entries.items in
     let same : c.as_slice.result.now ≡ c.in_ok-entries.entries.items = c.as_slice.ensures.value in
-    let row = rw same at (sym put.row) in
+    let specified = rw same at (sym put.specified) in
     rw (← c.context.view_is) (makes_ok {r = ListDirectory _}
     (λ listing. text_to c.args.memory.now c.args.buf (page listing c.args.cookie c.args.buf_len)) with_text
-    (rw (← c.in_ok-dir.ensures.row, ← c.in_ok-room_at.ensures.row) refl) c.context.invariant.owned put.size
-    (listing, given.short, row) refl refl
-    (λ told. record {
-      keeps = (given.told told).keeps;
-      does = (listing, resolved_ok {r = ListDirectory _} (given.told told), row);
+    (rw (← c.in_ok-dir.ensures.specified, ← c.in_ok-room_at.ensures.specified) refl) c.context.invariant.owned put.size
+    (listing, given.short, specified) refl refl
+    (λ modelled. record {
+      keeps = (given.modelled modelled).keeps;
+      does = (listing, resolved_ok {r = ListDirectory _} (given.modelled modelled), specified);
     }))

@@ -11,14 +11,14 @@ use Rattle.wasi_p1_model.specs.EntriesSeen.{entry_seen, IsListed}
 use Rattle.wasi_p1_model.proofs.Listings.{one_looked, entry_is_short, listed_at, not_looked, short_more}
 use Rattle.wasi_p1_fd_calls.proofs.pages.all_numbered.Goals as goal
 
-pub returns-in_err-entry-clause-lineage : goal.returns-in_err-entry-clause-lineage
-returns-in_err-entry-clause-lineage g c = traced_twice c.loop-name.invariant.lineage c.in_err-entry.ensures.lineage
+pub returns-in_err-entry-clause-provenance : goal.returns-in_err-entry-clause-provenance
+returns-in_err-entry-clause-provenance g c = traced_twice c.loop-name.invariant.provenance c.in_err-entry.ensures.provenance
 
-pub returns-in_err-push-clause-lineage : goal.returns-in_err-push-clause-lineage
-returns-in_err-push-clause-lineage g c = traced_twice c.loop-name.invariant.lineage c.in_ok-entry.ensures.lineage
+pub returns-in_err-push-clause-provenance : goal.returns-in_err-push-clause-provenance
+returns-in_err-push-clause-provenance g c = traced_twice c.loop-name.invariant.provenance c.in_ok-entry.ensures.provenance
 
-pub returns-in_err-entry-clause-told : goal.returns-in_err-entry-clause-told
-returns-in_err-entry-clause-told g c = λ told.
+pub returns-in_err-entry-clause-modelled : goal.returns-in_err-entry-clause-modelled
+returns-in_err-entry-clause-modelled g c = λ modelled.
     let error = err_from_is_err_and c.from_residual-in_err-entry.result c.from_residual-in_err-entry.ensures.1 in
     let rest : List DirEntry = into_iter_items c.next.new.self in
     let steps : into_iter_items c.loop-name.name-iterator ≡ c.in-Some.name ∷ rest = c.in-Some.ensures.steps.0 in
@@ -26,7 +26,7 @@ returns-in_err-entry-clause-told g c = λ told.
     ap (λ l. c.loop-name.yielded ++ l) (sym steps) ∙ c.loop-name.invariant.items in
     let names = sym (map-append entry_of c.loop-name.yielded (c.in-Some.name ∷ rest)) ∙ ap (map entry_of) all in
     rw (error.1, error.2, ← names) (not_looked (entry_of c.in-Some.name) c.requires.live c.loop-name.invariant.live
-    (c.loop-name.invariant.told told) _ (map entry_of rest) (c.in_err-entry.ensures.told told))
+    (c.loop-name.invariant.modelled modelled) _ (map entry_of rest) (c.in_err-entry.ensures.modelled modelled))
 
 pub loop-name-preserved : goal.loop-name-preserved
 loop-name-preserved g c =
@@ -43,11 +43,11 @@ loop-name-preserved g c =
       later = omega (arith, c.loop-name.invariant.later, c.numbered.ensures.cause.later);
       most = c.numbered.ensures.cause.most ∙ c.loop-name.invariant.most;
       live = c.numbered.ensures.live ∙ c.loop-name.invariant.live;
-      lineage = traced_twice c.loop-name.invariant.lineage c.in_ok-entry.ensures.lineage;
+      provenance = traced_twice c.loop-name.invariant.provenance c.in_ok-entry.ensures.provenance;
       short = rw c.in_ok-push.ensures.items (short_more c.loop-name.entries.items c.in_ok-entry.entry c.loop-name.invariant.short
           (rw c.in_ok-entry.ensures.name short));
-      told = λ told. rw (c.in_ok-push.ensures.items, names, entries) (one_looked (entry_of c.in-Some.name) c.requires.live
-          c.loop-name.invariant.live (c.loop-name.invariant.told told) (c.in_ok-entry.ensures.told told));
+      modelled = λ modelled. rw (c.in_ok-push.ensures.items, names, entries) (one_looked (entry_of c.in-Some.name) c.requires.live
+          c.loop-name.invariant.live (c.loop-name.invariant.modelled modelled) (c.in_ok-entry.ensures.modelled modelled));
     }
 
 pub numbered-requires-clause-listed : goal.numbered-requires-clause-listed

@@ -2,7 +2,7 @@ use Rattle.std.proofs.Common.{◌≡◌, ◌≤◌, ◌++◌, map}
 use Rattle.std.specs.Prelude.{IsTrue}
 use Rattle.std.specs.Vec.Iter.{into_iter_items}
 use Rattle.wasi_host.specs.Answer.{entry_of}
-use Rattle.wasi_host.specs.Lineage.{HasProvenance, Only, Nothing}
+use Rattle.wasi_host.specs.Provenance.{HasProvenance, Only, Nothing}
 use Rattle.wasi_p1_model.specs.EntriesSeen.{entries_seen}
 use Rattle.wasi_p1_types.specs.Listing.{HasShortNames}
 use Rattle.wasi_p1_model.proofs.Listings.{SoFar}
@@ -15,8 +15,8 @@ invariant-loop-name g l = record {
   later : (g.H.Host.faults l.fn.host).count ≤ (g.H.Host.faults l.host).count;
   most : (g.H.Host.faults l.host).most ≡ (g.H.Host.faults l.fn.host).most;
   live : g.H.Host.live l.host ≡ g.H.Host.live l.fn.host;
-  lineage : HasProvenance (Only l.dir.dir) Nothing Nothing (g.H.Host.lookups l.fn.host) (g.H.Host.lookups l.host);
+  provenance : HasProvenance (Only l.dir.dir) Nothing Nothing (g.H.Host.lookups l.fn.host) (g.H.Host.lookups l.host);
   short : HasShortNames (entries_seen l.entries.items);
-  told : IsTrue g.H.Host.told → SoFar (g.H.Host.live l.fn.host) (g.H.Host.world l.fn.host) (g.H.Host.world l.host)
-      ((g.H.Host.world l.fn.host).held l.dir.dir).node l.node (map entry_of l.yielded) (entries_seen l.entries.items);
+  modelled : IsTrue g.H.Host.modelled → SoFar (g.H.Host.live l.fn.host) (g.H.Host.model l.fn.host) (g.H.Host.model l.host)
+      ((g.H.Host.model l.fn.host).held l.dir.dir).node l.node (map entry_of l.yielded) (entries_seen l.entries.items);
 }

@@ -10,11 +10,11 @@ returns-clause-owns g c =
     let live = rw (get_or_from_slice_get _ _ _ Closed c.requires.is) at c.close.ensures.live in
     rw c.close.ensures.slots (owns_closed _ _ c.requires.is live c.requires.holds.owned)
 
-pub returns-clause-lineage : goal.returns-clause-lineage
-returns-clause-lineage g c = rw c.close.ensures.slots (traced_closed _ _ c.requires.is c.close.ensures.logged)
+pub returns-clause-provenance : goal.returns-clause-provenance
+returns-clause-provenance g c = rw c.close.ensures.slots (traced_closed _ _ c.requires.is c.close.ensures.logged)
 
 pub returns-clause-stays : goal.returns-clause-stays
-returns-clause-stays g c = λ told.
+returns-clause-stays g c = λ modelled.
     let live = rw (get_or_from_slice_get _ _ _ Closed c.requires.is) at c.close.ensures.live in
     rw c.close.ensures.slots
-    (closed_stays _ _ c.requires.is live c.requires.holds.owned (c.close.ensures.told told))
+    (closed_stays _ _ c.requires.is live c.requires.holds.owned (c.close.ensures.modelled modelled))

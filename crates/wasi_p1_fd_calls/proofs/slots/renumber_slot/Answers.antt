@@ -16,14 +16,14 @@ returns-clause-owns g c =
     let two = are_two c.requires.from_within c.requires.is c.if-from-to.false in
     rw c.renumber.ensures.slots (owns_renumbered _ two c.requires.is live c.requires.holds.owned)
 
-pub returns-clause-lineage : goal.returns-clause-lineage
-returns-clause-lineage g c =
+pub returns-clause-provenance : goal.returns-clause-provenance
+returns-clause-provenance g c =
     let two = are_two c.requires.from_within c.requires.is c.if-from-to.false in
     rw c.renumber.ensures.slots (traced_renumbered _ two c.requires.is c.renumber.ensures.logged)
 
 pub returns-clause-stays : goal.returns-clause-stays
-returns-clause-stays g c = λ told.
+returns-clause-stays g c = λ modelled.
     let live = rw (get_or_from_slice_get _ _ _ Closed c.requires.is) at c.renumber.ensures.live in
     let two = are_two c.requires.from_within c.requires.is c.if-from-to.false in
     rw c.renumber.ensures.slots (renumbered_stays _ two c.requires.is live c.requires.holds.owned
-    (c.renumber.ensures.told told))
+    (c.renumber.ensures.modelled modelled))

@@ -16,7 +16,7 @@ returns-in_err-stat-clause-did g c =
       tt,
       record {
         permit = tt;
-        does = λ told none. unseen descriptor_stat stat_both _ (lower.did.2.does told none);
+        does = λ modelled none. unseen descriptor_stat stat_both _ (lower.did.2.does modelled none);
       },
     )
 
@@ -31,8 +31,8 @@ returns-in_err-hash-clause-did g c =
       tt,
       record {
         permit = tt;
-        does = λ told none. unseen metadata_hash stat_both _ (seen_through metadata_hash live c.about.ensures.live
-            (seen_looks descriptor_stat (Ok _) (first.2.2.does told none)) (lower.did.2.does told none));
+        does = λ modelled none. unseen metadata_hash stat_both _ (seen_through metadata_hash live c.about.ensures.live
+            (seen_looks descriptor_stat (Ok _) (first.2.2.does modelled none)) (lower.did.2.does modelled none));
       },
     )
 
@@ -48,8 +48,8 @@ returns-clause-did g c =
         stated first.2.1 second.2.1,
         record {
           permit = tt;
-          does = λ told none. both_seen (first.2.2.does told none) (seen_through metadata_hash live c.about.ensures.live
-              (seen_looks descriptor_stat (Ok _) (first.2.2.does told none)) (second.2.2.does told none));
+          does = λ modelled none. both_seen (first.2.2.does modelled none) (seen_through metadata_hash live c.about.ensures.live
+              (seen_looks descriptor_stat (Ok _) (first.2.2.does modelled none)) (second.2.2.does modelled none));
         },
       ),
     )

@@ -12,7 +12,7 @@ use Rattle.wasi_p1_fd_calls.proofs.stat.open_file_fdstat.Goals as goal
 pub returns-in_err-about-clause-makes : goal.returns-in_err-about-clause-makes
 returns-in_err-about-clause-makes g c =
     let lower = lowered_err _ c.in_err-about.ensures.cause c.in_err-about.ensures.did in
-    look_refused lower c.from_residual.ensures.1 lower.did.0 (λ told. let did = lower.did.2.does told refl in record {
+    look_refused lower c.from_residual.ensures.1 lower.did.0 (λ modelled. let did = lower.did.2.does modelled refl in record {
       keeps = did.keeps;
       does = inl (seen_err (λ metadata. descriptor_type metadata.kind) _ (λ is. lower.cause.io (ap Err is))
           (unflagged (λ metadata. descriptor_type metadata.kind) (File c.args.slot.file) _ did));
@@ -22,10 +22,10 @@ pub returns-in_err-kind-clause-makes : goal.returns-in_err-kind-clause-makes
 returns-in_err-kind-clause-makes g c =
     let lower = lowered_err _ c.in_err-kind.ensures.cause c.in_err-kind.ensures.did in
     let flags = lowered_shown _ c.in_ok-about.ensures.did in
-    look_refused lower c.from_residual-in_err-kind.ensures.1 lower.did.0 (λ told.
+    look_refused lower c.from_residual-in_err-kind.ensures.1 lower.did.0 (λ modelled.
     let seen = seen_through (λ (metadata : Metadata). descriptor_type metadata.kind)
     (stands_live _ _ c.requires.holds c.requires.stands) c.in_ok-about.ensures.live
-    (flags_looks (File c.args.slot.file) (Ok _) (flags.2.2.does told refl)) (lower.did.2 told) in record {
+    (flags_looks (File c.args.slot.file) (Ok _) (flags.2.2.does modelled refl)) (lower.did.2 modelled) in record {
       keeps = seen.keeps;
       does = inl (seen_err (λ metadata. descriptor_type metadata.kind) _
           (λ is. let rose = lower.cause.io (ap Err is) in omega (arith, rose, c.in_ok-about.ensures.cause.later)) seen);
@@ -43,10 +43,10 @@ returns-clause-makes g c =
         tt,
         ap (λ kind. give (file_fdstat c.args.slot.file.open_mode c.args.slot.modes kind)) is ∙ same,
       );
-      told = λ told.
+      modelled = λ modelled.
           let seen = seen_through (λ (metadata : Metadata). descriptor_type metadata.kind)
           (stands_live _ _ c.requires.holds c.requires.stands) c.in_ok-about.ensures.live
-          (flags_looks (File c.args.slot.file) (Ok _) (flags.2.2.does told refl)) (kind.2.2 told) in
+          (flags_looks (File c.args.slot.file) (Ok _) (flags.2.2.does modelled refl)) (kind.2.2 modelled) in
           let (metadata, asked, is) = seen_ok (λ metadata. descriptor_type metadata.kind) seen in record {
             keeps = seen.keeps;
             does = (

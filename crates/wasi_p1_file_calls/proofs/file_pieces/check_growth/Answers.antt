@@ -6,7 +6,7 @@ returns-clause-front g c = λ limit bound.
     let same : limit ≡ c.in-Some.limit = (let both = sym bound ∙ sym c.allowance.ensures.is ∙ c.in-Some.is in cc) in
     rw same c.growth_of.ensures.front
 
-pub returns-clause-told : goal.returns-clause-told
-returns-clause-told g c = λ told limit bound.
+pub returns-clause-modelled : goal.returns-clause-modelled
+returns-clause-modelled g c = λ modelled limit bound.
     let same : limit ≡ c.in-Some.limit = (let both = sym bound ∙ sym c.allowance.ensures.is ∙ c.in-Some.is in cc) in
-    rw same (c.growth_of.ensures.told told)
+    rw same (c.growth_of.ensures.modelled modelled)

@@ -10,28 +10,28 @@ returns-in_err-metadata-clause-front g c =
     let error = err_from_is_err_and c.from_residual.result c.from_residual.ensures.1 in
     rw error.1 (inl (Code c.in_err-metadata.field-0.0, error.2))
 
-pub returns-in_err-metadata-clause-told : goal.returns-in_err-metadata-clause-told
-returns-in_err-metadata-clause-told g c = λ told.
+pub returns-in_err-metadata-clause-modelled : goal.returns-in_err-metadata-clause-modelled
+returns-in_err-metadata-clause-modelled g c = λ modelled.
     let error = err_from_is_err_and c.from_residual.result c.from_residual.ensures.1 in
     rw (error.1, error.2) (told_err c.stat.ensures.live (Code c.in_err-metadata.field-0.0)
-    c.in_err-metadata.ensures.cause.io (c.in_err-metadata.ensures.told told))
+    c.in_err-metadata.ensures.cause.io (c.in_err-metadata.ensures.modelled modelled))
 
 pub returns-in_err-position-clause-front : goal.returns-in_err-position-clause-front
 returns-in_err-position-clause-front g c =
     let residual = c.from_residual-in_err-position in
     let error = err_from_is_err_and residual.result residual.ensures.1 in
-    rw (error.1, error.2) (inr (c.in_ok-metadata.metadata, tt, sym (simp (to_z-of_z, c.ranges.offset) at c.in_err-position.ensures.row)))
+    rw (error.1, error.2) (inr (c.in_ok-metadata.metadata, tt, sym (simp (to_z-of_z, c.ranges.offset) at c.in_err-position.ensures.specified)))
 
-pub returns-in_err-position-clause-told : goal.returns-in_err-position-clause-told
-returns-in_err-position-clause-told g c = λ told.
+pub returns-in_err-position-clause-modelled : goal.returns-in_err-position-clause-modelled
+returns-in_err-position-clause-modelled g c = λ modelled.
     let residual = c.from_residual-in_err-position in
     let error = err_from_is_err_and residual.result residual.ensures.1 in
-    rw (error.1, error.2) (told_refused c.stat.ensures.live (c.in_ok-metadata.ensures.told told)
-    (sym (simp (to_z-of_z, c.ranges.offset) at c.in_err-position.ensures.row)))
+    rw (error.1, error.2) (told_refused c.stat.ensures.live (c.in_ok-metadata.ensures.modelled modelled)
+    (sym (simp (to_z-of_z, c.ranges.offset) at c.in_err-position.ensures.specified)))
 
 pub returns-clause-front : goal.returns-clause-front
-returns-clause-front g c = (c.in_ok-metadata.metadata, tt, sym (simp (to_z-of_z, c.ranges.offset) at c.in_ok-position.ensures.row))
+returns-clause-front g c = (c.in_ok-metadata.metadata, tt, sym (simp (to_z-of_z, c.ranges.offset) at c.in_ok-position.ensures.specified))
 
-pub returns-clause-told : goal.returns-clause-told
-returns-clause-told g c = λ told. told_ok c.stat.ensures.live (c.in_ok-metadata.ensures.told told)
-    (sym (simp (to_z-of_z, c.ranges.offset) at c.in_ok-position.ensures.row))
+pub returns-clause-modelled : goal.returns-clause-modelled
+returns-clause-modelled g c = λ modelled. told_ok c.stat.ensures.live (c.in_ok-metadata.ensures.modelled modelled)
+    (sym (simp (to_z-of_z, c.ranges.offset) at c.in_ok-position.ensures.specified))

@@ -9,16 +9,16 @@ pub returns-in_default-clause-front : goal.returns-in_default-clause-front
 returns-in_default-clause-front g c = λ none.
     rw (to_z-of_z w64 c.args.offset c.ranges.offset) at c.position_from_end.ensures.front
 
-pub returns-in_default-clause-told : goal.returns-in_default-clause-told
-returns-in_default-clause-told g c = λ told none.
-    rw (to_z-of_z w64 c.args.offset c.ranges.offset) at (c.position_from_end.ensures.told told)
+pub returns-in_default-clause-modelled : goal.returns-in_default-clause-modelled
+returns-in_default-clause-modelled g c = λ modelled none.
+    rw (to_z-of_z w64 c.args.offset c.ranges.offset) at (c.position_from_end.ensures.modelled modelled)
 
 pub returns-clause-known : goal.returns-clause-known
 returns-clause-known g c = rw (← c.base_of.ensures, c.in-Some.is)
-    (simp (to_z-of_z, c.ranges.offset) at c.position_from.ensures.row, refl)
+    (simp (to_z-of_z, c.ranges.offset) at c.position_from.ensures.specified, refl)
 
 pub returns-clause-front : goal.returns-clause-front
 returns-clause-front g c = λ none. absurd (let wrong = sym c.in-Some.is ∙ c.base_of.ensures ∙ none in cc)
 
-pub returns-clause-told : goal.returns-clause-told
-returns-clause-told g c = λ told none. absurd (let wrong = sym c.in-Some.is ∙ c.base_of.ensures ∙ none in cc)
+pub returns-clause-modelled : goal.returns-clause-modelled
+returns-clause-modelled g c = λ modelled none. absurd (let wrong = sym c.in-Some.is ∙ c.base_of.ensures ∙ none in cc)

@@ -7,8 +7,8 @@ use Rattle.wasi_p1_file_calls.proofs.file_pieces.put_next.Goals as goal
 pub returns-then-modes-clause-front : goal.returns-then-modes-clause-front
 returns-then-modes-clause-front g c = rw c.if-modes.true c.put_behind.ensures.front
 
-pub returns-then-modes-clause-told : goal.returns-then-modes-clause-told
-returns-then-modes-clause-told g c = rw c.if-modes.true c.put_behind.ensures.told
+pub returns-then-modes-clause-modelled : goal.returns-then-modes-clause-modelled
+returns-then-modes-clause-modelled g c = rw c.if-modes.true c.put_behind.ensures.modelled
 
 pub returns-in_err-count-clause-front : goal.returns-in_err-count-clause-front
 returns-in_err-count-clause-front g c =
@@ -18,18 +18,18 @@ returns-in_err-count-clause-front g c =
       | inr (count, may, is) ↦ absurd (cc)
     ])
 
-pub returns-in_err-count-clause-told : goal.returns-in_err-count-clause-told
-returns-in_err-count-clause-told g c = λ told.
+pub returns-in_err-count-clause-modelled : goal.returns-in_err-count-clause-modelled
+returns-in_err-count-clause-modelled g c = λ modelled.
     let error = err_from_is_err_and c.from_residual.result c.from_residual.ensures.1 in
     let put : ℕ → Put = λ count. record { count = count; position = c.args.position + count } in
-    rw (error.1, error.2, c.if-modes.false) (makes_made put (Err _) (c.in_err-count.ensures.told told))
+    rw (error.1, error.2, c.if-modes.false) (makes_made put (Err _) (c.in_err-count.ensures.modelled modelled))
 
 pub returns-clause-front : goal.returns-clause-front
 returns-clause-front g c =
     let (count, may, is) = c.in_ok-count.ensures.front in
     let same : count ≡ c.in_ok-count.count = (cc) in rw c.if-modes.false (count, may, rw same refl)
 
-pub returns-clause-told : goal.returns-clause-told
-returns-clause-told g c = λ told.
+pub returns-clause-modelled : goal.returns-clause-modelled
+returns-clause-modelled g c = λ modelled.
     let put : ℕ → Put = λ count. record { count = count; position = c.args.position + count } in
-    rw c.if-modes.false (makes_made put (Ok _) (c.in_ok-count.ensures.told told))
+    rw c.if-modes.false (makes_made put (Ok _) (c.in_ok-count.ensures.modelled modelled))

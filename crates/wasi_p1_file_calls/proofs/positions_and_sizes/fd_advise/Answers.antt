@@ -14,9 +14,9 @@ returns-in_err-about_file-clause-spec g c =
     let given = c.in_err-about_file.ensures in
     let lower = lowered_err _ given.cause given.did in
     rw (given.same, ← c.context.view_is) (on_refusal lower c.from_residual-in_err-about_file.ensures.1 (changed_err {own = None} {r = Direct (Advise _ _ _ _)}
-    (rw (← c.in_ok-how.ensures.row, ← c.in_ok-slot.ensures.row, c.view_advice.ensures) refl)
-    c.context.invariant.owned refl unchanged _ tt (not_wanted _ lower.did.0) (λ told _. (lower.did.1.does told refl).keeps)
-    (λ told _. called_err _ (λ is. lower.cause.io (ap Err is)) (lower.did.1.does told refl))))
+    (rw (← c.in_ok-how.ensures.specified, ← c.in_ok-slot.ensures.specified, c.view_advice.ensures) refl)
+    c.context.invariant.owned refl unchanged _ tt (not_wanted _ lower.did.0) (λ modelled _. (lower.did.1.does modelled refl).keeps)
+    (λ modelled _. called_err _ (λ is. lower.cause.io (ap Err is)) (lower.did.1.does modelled refl))))
 
 pub returns-clause-spec : goal.returns-clause-spec
 unfolding fd_advise
@@ -24,5 +24,5 @@ returns-clause-spec g c =
     let given = c.in_ok-about_file.ensures in
     let lower = lowered_ok _ given.did in
     rw (given.same, ← c.context.view_is) (changed_ok {own = None} {r = Direct (Advise _ _ _ _)}
-    (rw (← c.in_ok-how.ensures.row, ← c.in_ok-slot.ensures.row, c.view_advice.ensures) refl)
-    c.context.invariant.owned unchanged tt tt tt (λ told _. (lower.1.does told refl).keeps) (λ told _. called_ok refl (lower.1.does told refl)))
+    (rw (← c.in_ok-how.ensures.specified, ← c.in_ok-slot.ensures.specified, c.view_advice.ensures) refl)
+    c.context.invariant.owned unchanged tt tt tt (λ modelled _. (lower.1.does modelled refl).keeps) (λ modelled _. called_ok refl (lower.1.does modelled refl)))

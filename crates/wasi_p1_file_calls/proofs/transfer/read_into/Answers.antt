@@ -16,11 +16,11 @@ returns-in_err-count-clause-same g c =
     let error = err_from_is_err_and c.from_residual.result c.from_residual.ensures.1 in
     rw (error.1, c.in_err-count.ensures.kept) (part_same _ _ _ c.requires.inside)
 
-pub returns-in_err-count-clause-told : goal.returns-in_err-count-clause-told
-returns-in_err-count-clause-told g c = λ told.
+pub returns-in_err-count-clause-modelled : goal.returns-in_err-count-clause-modelled
+returns-in_err-count-clause-modelled g c = λ modelled.
     let error = err_from_is_err_and c.from_residual.result c.from_residual.ensures.1 in
     rw (error.1, error.2) (read_err _ _ c.args.memory.now c.pread.ensures.live (length_part _ _ _ c.requires.inside)
-    c.in_err-count.ensures.cause.io (c.in_err-count.ensures.told told))
+    c.in_err-count.ensures.cause.io (c.in_err-count.ensures.modelled modelled))
 
 pub returns-clause-front : goal.returns-clause-front
 returns-clause-front g c =
@@ -34,8 +34,8 @@ returns-clause-front g c =
       rest = c.in_ok-count.ensures.rest;
     }))
 
-pub returns-clause-told : goal.returns-clause-told
-returns-clause-told g c = λ told.
+pub returns-clause-modelled : goal.returns-clause-modelled
+returns-clause-modelled g c = λ modelled.
     let sized = length_part c.args.memory.now c.args.buffer.buf c.args.buffer.buf_len c.requires.inside in
     rw (part_written c.args.memory.now c.args.buffer.buf c.args.buffer.buf_len c.pread.new.buf c.requires.inside
     (grind (arith, common_steps))) (read_ok c.pread.ensures.live (record {
@@ -44,4 +44,4 @@ returns-clause-told g c = λ told.
       fits = c.in_ok-count.ensures.fits;
       long = grind (arith, common_steps);
       rest = c.in_ok-count.ensures.rest;
-    }) (c.in_ok-count.ensures.told told))
+    }) (c.in_ok-count.ensures.modelled modelled))

@@ -3,6 +3,6 @@ use Rattle.wasi_p1_model.proofs.laws.methods_are_complete.Goals as goal
 
 pub returns : goal.returns
 returns g c = record {
-  complete = λ old new before after call result does told never valid.
-      turn_completes result (does.turn told) does.wants never valid;
+  complete = λ old new before after call result does modelled never valid.
+      turn_completes result (does.turn modelled) does.wants never valid;
 }

@@ -11,10 +11,10 @@ use Rattle.wasi_p1_model.proofs.Staying.{new_stays}
 use Rattle.wasi_p1_state.proofs.Viewing.{refusal_is}
 use Rattle.wasi_p1_path_calls.proofs.opens.open_into.Goals as goal
 
-pub returns-in_err-number-clause-lineage : goal.returns-in_err-number-clause-lineage
-returns-in_err-number-clause-lineage g c =
+pub returns-in_err-number-clause-provenance : goal.returns-in_err-number-clause-provenance
+returns-in_err-number-clause-provenance g c =
     let refused = open_refusal c.in_err-number.ensures.cause c.in_err-number.ensures.did in
-    rw (refused.1, c.reserve.ensures.slots) (traced_refused (λ q none. none) refused.0.did.lineage)
+    rw (refused.1, c.reserve.ensures.slots) (traced_refused (λ q none. none) refused.0.did.provenance)
 
 pub returns-in_err-number-clause-permit : goal.returns-in_err-number-clause-permit
 returns-in_err-number-clause-permit g c =
@@ -23,18 +23,18 @@ returns-in_err-number-clause-permit g c =
     rw is (refused_by _ _ _ refused.0.error _ _ refused.0.did.performs.permit)
 
 pub returns-in_err-number-clause-stays : goal.returns-in_err-number-clause-stays
-returns-in_err-number-clause-stays g c = λ told.
+returns-in_err-number-clause-stays g c = λ modelled.
     let refused = open_refusal c.in_err-number.ensures.cause c.in_err-number.ensures.did in
     let is = refusal_is refused.0 c.from_residual-in_err-number.ensures.1 in
-    rw (is, refused.1, c.reserve.ensures.slots) (unopened_stays _ _ g.H.Host.world _ _ _ _ c.requires.holds.owned
-    (λ told none. (refused.0.did.performs.does told none).keeps) refused.0.did.performs.permit told)
+    rw (is, refused.1, c.reserve.ensures.slots) (unopened_stays _ _ g.H.Host.model _ _ _ _ c.requires.holds.owned
+    (λ modelled none. (refused.0.did.performs.does modelled none).keeps) refused.0.did.performs.permit modelled)
 
-pub returns-in_err-number-clause-told : goal.returns-in_err-number-clause-told
-returns-in_err-number-clause-told g c = λ told none.
+pub returns-in_err-number-clause-modelled : goal.returns-in_err-number-clause-modelled
+returns-in_err-number-clause-modelled g c = λ modelled none.
     let refused = open_refusal c.in_err-number.ensures.cause c.in_err-number.ensures.did in
     let is = refusal_is refused.0 c.from_residual-in_err-number.ensures.1 in
     rw is (inl (resolved_err refused.0.error (λ is. refused.0.cause.io (ap Err is))
-    (refused.0.did.performs.does told none)))
+    (refused.0.did.performs.does modelled none)))
 
 pub returns-clause-used : goal.returns-clause-used
 returns-clause-used g c = rw (c.in_ok-number.ensures.did.1.1, c.reserve.ensures.slots) (new_stays _ refl)
@@ -44,26 +44,26 @@ returns-clause-owns g c =
     let made = c.in_ok-number.ensures.did in
     rw (made.1.1, c.reserve.ensures.slots) (owns_new _ _ (got_slot _ _ _ _ made.2.live) c.requires.holds.owned)
 
-pub returns-clause-lineage : goal.returns-clause-lineage
-returns-clause-lineage g c =
+pub returns-clause-provenance : goal.returns-clause-provenance
+returns-clause-provenance g c =
     let made = c.in_ok-number.ensures.did in
-    rw (made.1.1, c.reserve.ensures.slots) (traced_new _ _ _ made.2.lineage)
+    rw (made.1.1, c.reserve.ensures.slots) (traced_new _ _ _ made.2.provenance)
 
 pub returns-clause-front : goal.returns-clause-front
 returns-clause-front g c = λ none.
     let made = c.in_ok-number.ensures.did in
     rw (made.1.0, made.1.1, c.reserve.ensures.slots) (
-      opened_of (g.H.Host.world c.args.fs.now.host).held made.0,
+      opened_of (g.H.Host.model c.args.fs.now.host).held made.0,
       opened_asked _ _ _ made.2.kind,
       opened_numbered _ _ _ _ _ _ refl made.2.perms made.2.mode,
     )
 
-pub returns-clause-told : goal.returns-clause-told
-returns-clause-told g c = λ told none.
+pub returns-clause-modelled : goal.returns-clause-modelled
+returns-clause-modelled g c = λ modelled none.
     let made = c.in_ok-number.ensures.did in
-    let did = made.2.performs.does told none in
+    let did = made.2.performs.does modelled none in
     rw (made.1.0, made.1.1, c.reserve.ensures.slots) (
-      opened_of (g.H.Host.world c.open.new.fs.host).held made.0,
+      opened_of (g.H.Host.model c.open.new.fs.host).held made.0,
       resolved_ok did,
       opened_numbered _ _ _ _ _ _ (guest_slots_stay _ c.requires.holds.owned did.keeps) made.2.perms made.2.mode,
     )

@@ -8,11 +8,11 @@ use Rattle.wasi_p1_state.proofs.Viewing.{lowered_again, lowered_err, lowered_sho
 use Rattle.wasi_host.proofs.Tracing.{traced_twice}
 use Rattle.wasi_p1_path_calls.proofs.stat.stat_both.Goals as goal
 
-pub returns-in_err-hash-clause-lineage : goal.returns-in_err-hash-clause-lineage
-returns-in_err-hash-clause-lineage g c = traced_twice c.in_ok-stat.ensures.lineage c.in_err-hash.ensures.lineage
+pub returns-in_err-hash-clause-provenance : goal.returns-in_err-hash-clause-provenance
+returns-in_err-hash-clause-provenance g c = traced_twice c.in_ok-stat.ensures.provenance c.in_err-hash.ensures.provenance
 
-pub returns-clause-lineage : goal.returns-clause-lineage
-returns-clause-lineage g c = traced_twice c.in_ok-stat.ensures.lineage c.in_ok-hash.ensures.lineage
+pub returns-clause-provenance : goal.returns-clause-provenance
+returns-clause-provenance g c = traced_twice c.in_ok-stat.ensures.provenance c.in_ok-hash.ensures.provenance
 
 pub returns-in_err-stat-clause-did : goal.returns-in_err-stat-clause-did
 returns-in_err-stat-clause-did g c =
@@ -22,7 +22,7 @@ returns-in_err-stat-clause-did g c =
       tt,
       record {
         permit = tt;
-        does = λ told none. unlooked c.args.text.now _ descriptor_stat stat_both _ (lower.did.1.does told none);
+        does = λ modelled none. unlooked c.args.text.now _ descriptor_stat stat_both _ (lower.did.1.does modelled none);
       },
     )
 
@@ -36,9 +36,9 @@ returns-in_err-hash-clause-did g c =
       tt,
       record {
         permit = tt;
-        does = λ told none. unlooked c.args.text.now _ metadata_hash stat_both _ (looked_through metadata_hash
+        does = λ modelled none. unlooked c.args.text.now _ metadata_hash stat_both _ (looked_through metadata_hash
             c.args.text.now _ live c.below.ensures.live (looked_looks c.args.text.now _ descriptor_stat (Ok _)
-            (first.2.1.does told none)) (lower.did.1.does told none));
+            (first.2.1.does modelled none)) (lower.did.1.does modelled none));
       },
     )
 
@@ -53,9 +53,9 @@ returns-clause-did g c =
         stated first.2.0 second.2.0,
         record {
           permit = tt;
-          does = λ told none. both_looked c.args.text.now _ (first.2.1.does told none) (looked_through metadata_hash
+          does = λ modelled none. both_looked c.args.text.now _ (first.2.1.does modelled none) (looked_through metadata_hash
               c.args.text.now _ live c.below.ensures.live (looked_looks c.args.text.now _ descriptor_stat (Ok _)
-              (first.2.1.does told none)) (second.2.1.does told none));
+              (first.2.1.does modelled none)) (second.2.1.does modelled none));
         },
       ),
     )

@@ -11,7 +11,7 @@ returns-in_err-below-clause-spec g c =
     let given = c.in_err-below.ensures in
     let lower = lowered_err _ given.cause given.did in
     rw (given.same, ← c.context.view_is) (on_refusal lower c.from_residual-in_err-below.ensures.1 (done_err (TimesPath _ _ _ _ _)
-    (rw (← c.in_ok-flags.ensures.row, ← (rw c.wall.ensures.wall at c.in_ok-times.ensures.row), ← c.in_ok-dir.ensures.row, ← c.in_ok-text.ensures.row) refl) c.context.invariant.owned _ lower.cause lower.did.permit refl refl
+    (rw (← c.in_ok-flags.ensures.specified, ← (rw c.wall.ensures.wall at c.in_ok-times.ensures.specified), ← c.in_ok-dir.ensures.specified, ← c.in_ok-text.ensures.specified) refl) c.context.invariant.owned _ lower.cause lower.did.permit refl refl
     lower.did.does))
 
 pub returns-clause-spec : goal.returns-clause-spec
@@ -20,5 +20,5 @@ returns-clause-spec g c =
     let given = c.in_ok-below.ensures in
     let lower = lowered_ok _ given.did in
     rw (given.same, ← c.context.view_is) (done_ok (TimesPath _ _ _ _ _)
-    (rw (← c.in_ok-flags.ensures.row, ← (rw c.wall.ensures.wall at c.in_ok-times.ensures.row), ← c.in_ok-dir.ensures.row, ← c.in_ok-text.ensures.row) refl) c.context.invariant.owned
+    (rw (← c.in_ok-flags.ensures.specified, ← (rw c.wall.ensures.wall at c.in_ok-times.ensures.specified), ← c.in_ok-dir.ensures.specified, ← c.in_ok-text.ensures.specified) refl) c.context.invariant.owned
     tt lower.permit lower.does)

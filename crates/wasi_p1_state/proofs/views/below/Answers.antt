@@ -12,8 +12,8 @@ made-requires g c = record {
   owned = kept_owned c.descriptors.invariant c.descriptors.view_is c.requires.holds;
 }
 
-pub returns-clause-lineage : goal.returns-clause-lineage
-returns-clause-lineage g c =
+pub returns-clause-provenance : goal.returns-clause-provenance
+returns-clause-provenance g c =
     let entry = entry_under c.args.fd c.descriptors.invariant c.descriptors.view_is c.requires.stands _
     c.resource_under-resource.ensures.names in
     let looks = traced_only _ _ entry c.made.ensures.call.looks in

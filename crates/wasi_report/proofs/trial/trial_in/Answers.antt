@@ -9,7 +9,7 @@ unfolding trial_text
 returns-clause-text g c =
     let report = reported c.args.outcome.now c.args.tree.now.tree.nodes in
     let value = trial_value (trial_by c.args.base.now.tree.nodes c.args.kept.now report) in
-    let before = c.tell_trial.ensures.before ∙ c.new-out.ensures.before ∙ c.clear.ensures.items in
-    let tokens = rw c.new-out.ensures.tokens at c.in_ok-tell_trial.ensures.tokens in
+    let before = c.encode_trial.ensures.before ∙ c.new-out.ensures.before ∙ c.clear.ensures.items in
+    let tokens = rw c.new-out.ensures.tokens at c.in_ok-encode_trial.ensures.tokens in
     let text = rw (before, tokens, print-outline value) at c.into_inner-text.ensures.items in
     c.in_ok-push.ensures.items ∙ ap (λ (bytes : List ℕ). bytes ++ 10 ∷ []) text

@@ -9,12 +9,12 @@ use Rattle.wasi_resolve.proofs.Ascending.{fails_here}
 use Rattle.wasi_resolve.proofs.Going.{on_top, goes_down, goes_link, goes_err}
 use Rattle.wasi_resolve.proofs.name_lookup.go_down.Goals as goal
 
-pub returns-in_err-reserve-clause-lineage : goal.returns-in_err-reserve-clause-lineage
-returns-in_err-reserve-clause-lineage g c =
+pub returns-in_err-reserve-clause-provenance : goal.returns-in_err-reserve-clause-provenance
+returns-in_err-reserve-clause-provenance g c =
     rw c.reserve.ensures.items (traced_none _ _ _ _ _ refl (λ q has. has))
 
-pub returns-in_err-reserve-clause-told : goal.returns-in_err-reserve-clause-told
-returns-in_err-reserve-clause-told g c told first w next rest stands walked =
+pub returns-in_err-reserve-clause-modelled : goal.returns-in_err-reserve-clause-modelled
+returns-in_err-reserve-clause-modelled g c modelled first w next rest stands walked =
     let error = err_from_is_err_and c.from_residual.result c.from_residual.ensures.1 in
     rw (error.1, error.2) (fails_here (Normal c.args.name.text.now) _ walked.looks (inl (inl refl)))
 
@@ -26,44 +26,44 @@ returns-in-Ok-Some-clause-stands g c first stands =
     let got = rw c.in-Ok-Some.field-0-is at c.in-Ok-Some.ensures.live in
     rw (c.push_reserved.ensures.items, c.reserve.ensures.items) (stands_push c.in-Ok-Some.handle stands got.0 got.1)
 
-pub returns-in-Ok-Some-clause-lineage : goal.returns-in-Ok-Some-clause-lineage
-returns-in-Ok-Some-clause-lineage g c =
+pub returns-in-Ok-Some-clause-provenance : goal.returns-in-Ok-Some-clause-provenance
+returns-in-Ok-Some-clause-provenance g c =
     rw (c.push_reserved.ensures.items, c.reserve.ensures.items)
     (traced_kept _ _ (among_more c.args.stack.now.items c.in-Ok-Some.handle)
     (traced_top c.args.start c.args.stack.now.items (c.top_of-here.ensures
     ∙ ap (top_handle c.args.start) c.reserve.ensures.items)
-    (rw c.in-Ok-Some.field-0-is at c.in-Ok-Some.ensures.lineage)))
+    (rw c.in-Ok-Some.field-0-is at c.in-Ok-Some.ensures.provenance)))
 
-pub returns-in-Ok-Some-clause-told : goal.returns-in-Ok-Some-clause-told
-returns-in-Ok-Some-clause-told g c told first w next rest stands walked =
+pub returns-in-Ok-Some-clause-modelled : goal.returns-in-Ok-Some-clause-modelled
+returns-in-Ok-Some-clause-modelled g c modelled first w next rest stands walked =
     let on = on_top stands walked (c.top_of-here.ensures ∙ ap (top_handle c.args.start) c.reserve.ensures.items) in
     rw (c.push_reserved.ensures.items, c.reserve.ensures.items)
     (goes_down on c.args.name.text.now next rest
-    (rw (c.in-Ok-Some.field-0-is, c.name.ensures.bytes, c.middle_options.ensures) at (c.in-Ok-Some.ensures.told told)))
+    (rw (c.in-Ok-Some.field-0-is, c.name.ensures.bytes, c.middle_options.ensures) at (c.in-Ok-Some.ensures.modelled modelled)))
 
-pub returns-in-Ok-None-clause-lineage : goal.returns-in-Ok-None-clause-lineage
-returns-in-Ok-None-clause-lineage g c =
+pub returns-in-Ok-None-clause-provenance : goal.returns-in-Ok-None-clause-provenance
+returns-in-Ok-None-clause-provenance g c =
     rw c.reserve.ensures.items
     (traced_top c.args.start c.args.stack.now.items (c.top_of-here.ensures
     ∙ ap (top_handle c.args.start) c.reserve.ensures.items)
-    (traced_stays c.args.start c.args.stack.now.items (rw c.in-Ok-None.field-0-is at c.in-Ok-None.ensures.lineage)))
+    (traced_stays c.args.start c.args.stack.now.items (rw c.in-Ok-None.field-0-is at c.in-Ok-None.ensures.provenance)))
 
-pub returns-in-Ok-None-clause-told : goal.returns-in-Ok-None-clause-told
-returns-in-Ok-None-clause-told g c told first w next rest stands walked =
+pub returns-in-Ok-None-clause-modelled : goal.returns-in-Ok-None-clause-modelled
+returns-in-Ok-None-clause-modelled g c modelled first w next rest stands walked =
     let on = on_top stands walked (c.top_of-here.ensures ∙ ap (top_handle c.args.start) c.reserve.ensures.items) in
     rw c.reserve.ensures.items
     (goes_link on c.args.name.text.now next rest c.args.name.plain
-    (rw (c.in-Ok-None.field-0-is, c.name.ensures.bytes, c.middle_options.ensures) at (c.in-Ok-None.ensures.told told)))
+    (rw (c.in-Ok-None.field-0-is, c.name.ensures.bytes, c.middle_options.ensures) at (c.in-Ok-None.ensures.modelled modelled)))
 
-pub returns-in-Err-clause-lineage : goal.returns-in-Err-clause-lineage
-returns-in-Err-clause-lineage g c =
+pub returns-in-Err-clause-provenance : goal.returns-in-Err-clause-provenance
+returns-in-Err-clause-provenance g c =
     rw c.reserve.ensures.items
     (traced_top c.args.start c.args.stack.now.items (c.top_of-here.ensures
     ∙ ap (top_handle c.args.start) c.reserve.ensures.items)
-    (traced_stays c.args.start c.args.stack.now.items c.in-Err.ensures.lineage))
+    (traced_stays c.args.start c.args.stack.now.items c.in-Err.ensures.provenance))
 
-pub returns-in-Err-clause-told : goal.returns-in-Err-clause-told
-returns-in-Err-clause-told g c told first w next rest stands walked =
+pub returns-in-Err-clause-modelled : goal.returns-in-Err-clause-modelled
+returns-in-Err-clause-modelled g c modelled first w next rest stands walked =
     let on = on_top stands walked (c.top_of-here.ensures ∙ ap (top_handle c.args.start) c.reserve.ensures.items) in
     goes_err on c.args.name.text.now next rest c.in-Err.e
-    (rw (c.name.ensures.bytes, c.middle_options.ensures) at (c.in-Err.ensures.told told))
+    (rw (c.name.ensures.bytes, c.middle_options.ensures) at (c.in-Err.ensures.modelled modelled))

@@ -8,53 +8,53 @@ use Rattle.wasi_resolve.proofs.Lookups.{last_is}
 use Rattle.wasi_resolve.proofs.Counting.{few_piece, few_more, few_got_err, few_err, few_then}
 use Rattle.wasi_resolve.proofs.name_lookup.open_or_link.Goals as goal
 
-pub returns-in-Ok-clause-told : goal.returns-in-Ok-clause-told
-returns-in-Ok-clause-told g c told = enters_ok c.args.may_read c.in-Ok.ensures.live.1 (c.in-Ok.ensures.told told)
+pub returns-in-Ok-clause-modelled : goal.returns-in-Ok-clause-modelled
+returns-in-Ok-clause-modelled g c modelled = enters_ok c.args.may_read c.in-Ok.ensures.live.1 (c.in-Ok.ensures.modelled modelled)
 
-pub returns-then-not-may_read-clause-told : goal.returns-then-not-may_read-clause-told
-returns-then-not-may_read-clause-told g c told =
-    enters_refused c.args.may_read c.in-Err.ensures.live _ c.if-not-may_read.true (c.in-Err.ensures.told told)
+pub returns-then-not-may_read-clause-modelled : goal.returns-then-not-may_read-clause-modelled
+returns-then-not-may_read-clause-modelled g c modelled =
+    enters_refused c.args.may_read c.in-Err.ensures.live _ c.if-not-may_read.true (c.in-Err.ensures.modelled modelled)
 
-pub returns-then-is_loop-clause-told : goal.returns-then-is_loop-clause-told
-returns-then-is_loop-clause-told g c told =
+pub returns-then-is_loop-clause-modelled : goal.returns-then-is_loop-clause-modelled
+returns-then-is_loop-clause-modelled g c modelled =
     let loop = sym c.is_loop.ensures ∙ c.if-is_loop.true in
     enters_loop c.args.here c.args.may_read c.requires.plain c.in-Err.refused (loop_code c.in-Err.refused loop)
-    c.in-Err.ensures.live c.requires.live (c.in-Err.ensures.told told) loop c.if-not-may_read.false
+    c.in-Err.ensures.live c.requires.live (c.in-Err.ensures.modelled modelled) loop c.if-not-may_read.false
 
-pub returns-then-not-may_be_link-clause-told : goal.returns-then-not-may_be_link-clause-told
-returns-then-not-may_be_link-clause-told g c told =
+pub returns-then-not-may_be_link-clause-modelled : goal.returns-then-not-may_be_link-clause-modelled
+returns-then-not-may_be_link-clause-modelled g c modelled =
     enters_other c.args.may_read c.in-Err.ensures.live c.in-Err.refused c.requires.plain
     (sym c.is_loop.ensures ∙ c.if-is_loop.false)
     (rw c.is_dir_required.ensures.value at (sym c.may_be_link.ensures ∙ c.if-not-may_be_link.true))
-    (c.in-Err.ensures.told told)
+    (c.in-Err.ensures.modelled modelled)
 
-pub returns-in-Err-stat_at-clause-lineage : goal.returns-in-Err-stat_at-clause-lineage
-returns-in-Err-stat_at-clause-lineage g c =
+pub returns-in-Err-stat_at-clause-provenance : goal.returns-in-Err-stat_at-clause-provenance
+returns-in-Err-stat_at-clause-provenance g c =
     traced_twice (traced_got_err _ _ _ Open c.args.here c.in-Err.refused c.in-Err.ensures.logged)
     (traced_call {A = Metadata} Stat c.args.here (Err c.in-Err-stat_at.failed) c.in-Err-stat_at.ensures.logged)
 
-pub returns-in-Err-stat_at-clause-told : goal.returns-in-Err-stat_at-clause-told
-returns-in-Err-stat_at-clause-told g c told =
+pub returns-in-Err-stat_at-clause-modelled : goal.returns-in-Err-stat_at-clause-modelled
+returns-in-Err-stat_at-clause-modelled g c modelled =
     enters_unlooked c.args.here c.args.may_read c.requires.plain c.in-Err.refused
     (doubtful_code c.in-Err.refused _ (sym c.may_be_link.ensures ∙ c.if-not-may_be_link.false)) c.in-Err.ensures.live
-    c.requires.live (c.in-Err.ensures.told told) c.in-Err-stat_at.ensures.live _ (c.in-Err-stat_at.ensures.told told)
+    c.requires.live (c.in-Err.ensures.modelled modelled) c.in-Err-stat_at.ensures.live _ (c.in-Err-stat_at.ensures.modelled modelled)
 
-pub returns-then-not-is_read-clause-told : goal.returns-then-not-is_read-clause-told
-returns-then-not-is_read-clause-told g c told =
+pub returns-then-not-is_read-clause-modelled : goal.returns-then-not-is_read-clause-modelled
+returns-then-not-is_read-clause-modelled g c modelled =
     enters_no_link c.args.here c.args.may_read c.requires.plain c.in-Err.refused
     (doubtful_code c.in-Err.refused _ (sym c.may_be_link.ensures ∙ c.if-not-may_be_link.false)) c.in-Err.ensures.live
-    c.requires.live (c.in-Err.ensures.told told) c.in-Ok-stat_at.ensures.live (c.in-Ok-stat_at.ensures.told told)
+    c.requires.live (c.in-Err.ensures.modelled modelled) c.in-Ok-stat_at.ensures.live (c.in-Ok-stat_at.ensures.modelled modelled)
     (sym c.is_read.ensures ∙ c.if-not-is_read.true)
 
-pub returns-clause-told : goal.returns-clause-told
-returns-clause-told g c told =
+pub returns-clause-modelled : goal.returns-clause-modelled
+returns-clause-modelled g c modelled =
     enters_link c.args.here c.args.may_read c.requires.plain c.in-Err.refused
     (doubtful_code c.in-Err.refused _ (sym c.may_be_link.ensures ∙ c.if-not-may_be_link.false)) c.in-Err.ensures.live
-    c.requires.live (c.in-Err.ensures.told told) c.in-Ok-stat_at.ensures.live (c.in-Ok-stat_at.ensures.told told)
+    c.requires.live (c.in-Err.ensures.modelled modelled) c.in-Ok-stat_at.ensures.live (c.in-Ok-stat_at.ensures.modelled modelled)
     (sym c.is_read.ensures ∙ c.if-not-is_read.false)
 
-pub returns-then-not-may_be_link-clause-lineage : goal.returns-then-not-may_be_link-clause-lineage
-returns-then-not-may_be_link-clause-lineage g c =
+pub returns-then-not-may_be_link-clause-provenance : goal.returns-then-not-may_be_link-clause-provenance
+returns-then-not-may_be_link-clause-provenance g c =
     traced_got_err _ _ _ Open c.args.here c.in-Err.refused c.in-Err.ensures.logged
 
 pub returns-in-Ok-clause-reads : goal.returns-in-Ok-clause-reads
@@ -101,13 +101,13 @@ returns-clause-reads g c =
     few_then (few_got_err _ Open c.args.here c.in-Err.refused c.in-Err.ensures.logged)
     (few_piece (one_looked Stat c.args.here) c.in-Ok-stat_at.ensures.logged)
 
-pub returns-then-not-is_read-clause-lineage : goal.returns-then-not-is_read-clause-lineage
-returns-then-not-is_read-clause-lineage g c =
+pub returns-then-not-is_read-clause-provenance : goal.returns-then-not-is_read-clause-provenance
+returns-then-not-is_read-clause-provenance g c =
     traced_twice (traced_got_err _ _ _ Open c.args.here c.in-Err.refused c.in-Err.ensures.logged)
     (traced_call Stat c.args.here (Ok c.in-Ok-stat_at.metadata) c.in-Ok-stat_at.ensures.logged)
 
-pub returns-clause-lineage : goal.returns-clause-lineage
-returns-clause-lineage g c =
+pub returns-clause-provenance : goal.returns-clause-provenance
+returns-clause-provenance g c =
     traced_twice (traced_got_err _ _ _ Open c.args.here c.in-Err.refused c.in-Err.ensures.logged)
     (traced_call Stat c.args.here (Ok c.in-Ok-stat_at.metadata) c.in-Ok-stat_at.ensures.logged)
 

@@ -12,9 +12,9 @@ loop-handle-preserved g c = record {
       popped_stands _ _ (c.loop-handle.invariant.stands first stands) c.in-Some.ensures.items refl c.close.ensures.live;
   faults = c.close.ensures.faults ∙ c.loop-handle.invariant.faults;
   logged = c.close.ensures.logged ∙ c.loop-handle.invariant.logged;
-  told = λ told first stands.
+  modelled = λ modelled first stands.
       let now = c.loop-handle.invariant.stands first stands in
       let under = popped_stands _ _ now c.in-Some.ensures.items refl c.close.ensures.live in
-      stayed_then (c.loop-handle.invariant.told told first stands)
-      (close_stays (c.close.ensures.told told) (λ q is. (first_live now q is, first_live under q is)));
+      stayed_then (c.loop-handle.invariant.modelled modelled first stands)
+      (close_stays (c.close.ensures.modelled modelled) (λ q is. (first_live now q is, first_live under q is)));
 }

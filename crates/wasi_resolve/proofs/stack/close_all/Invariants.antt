@@ -1,7 +1,7 @@
 use Rattle.std.proofs.Common.{◌≡◌, vec_len, IsTrue}
 use Rattle.wasi_host.specs.HostLaws.{Handles}
 use Rattle.wasi_resolve.specs.Stack.{Stands}
-use Rattle.wasi_resolve.specs.WalkSteps.{WorldStays}
+use Rattle.wasi_resolve.specs.WalkSteps.{ModelStays}
 use Rattle.wasi_resolve.proofs.stack.close_all.Given as goal
 
 abbrev pub invariant-loop-handle : goal.invariant-loop-handle
@@ -10,9 +10,9 @@ invariant-loop-handle g l = record {
       → Stands first (g.H.Host.live l.host) l.fn.start l.stack.items;
   faults : g.H.Host.faults l.host ≡ g.H.Host.faults l.initial.host;
   logged : g.H.Host.lookups l.host ≡ g.H.Host.lookups l.initial.host;
-  told : IsTrue g.H.Host.told → (first : Handles)
+  modelled : IsTrue g.H.Host.modelled → (first : Handles)
       → Stands first (g.H.Host.live l.initial.host) l.fn.start l.initial.stack.items
-      → WorldStays first (g.H.Host.world l.initial.host) (g.H.Host.world l.host);
+      → ModelStays first (g.H.Host.model l.initial.host) (g.H.Host.model l.host);
 }
 
 abbrev pub decreases-loop-handle : goal.decreases-loop-handle

@@ -5,8 +5,8 @@ use Rattle.wasi_resolve.proofs.Lookups.{among_less}
 use Rattle.wasi_resolve.proofs.Ascending.{leaves_top, leaves_ok, leaves_err}
 use Rattle.wasi_resolve.proofs.stack.leave.Goals as goal
 
-pub returns-in_default-clause-told : goal.returns-in_default-clause-told
-returns-in_default-clause-told g c told first w rest stands walked =
+pub returns-in_default-clause-modelled : goal.returns-in_default-clause-modelled
+returns-in_default-clause-modelled g c modelled first w rest stands walked =
     leaves_top rest (omega (arith, c.args.stack.now.ok.0, c.in_default.ensures.cases.0)) walked
 
 pub access-allowed-requires : goal.access-allowed-requires
@@ -23,22 +23,22 @@ pub returns-in-Err-clause-stands : goal.returns-in-Err-clause-stands
 returns-in-Err-clause-stands g c first stands =
     popped_stands _ _ stands c.in-Some.ensures.items c.access-allowed.ensures.live c.close.ensures.live
 
-pub returns-in-Ok-clause-lineage : goal.returns-in-Ok-clause-lineage
-returns-in-Ok-clause-lineage g c =
+pub returns-in-Ok-clause-provenance : goal.returns-in-Ok-clause-provenance
+returns-in-Ok-clause-provenance g c =
     traced_none _ _ _ _ _ (c.close.ensures.logged
     ∙ c.access-allowed.ensures.logged) (among_less _ _ c.in-Some.ensures.items)
 
-pub returns-in-Err-clause-lineage : goal.returns-in-Err-clause-lineage
-returns-in-Err-clause-lineage g c =
+pub returns-in-Err-clause-provenance : goal.returns-in-Err-clause-provenance
+returns-in-Err-clause-provenance g c =
     traced_none _ _ _ _ _ (c.close.ensures.logged
     ∙ c.access-allowed.ensures.logged) (among_less _ _ c.in-Some.ensures.items)
 
-pub returns-in-Ok-clause-told : goal.returns-in-Ok-clause-told
-returns-in-Ok-clause-told g c told first w rest stands walked =
+pub returns-in-Ok-clause-modelled : goal.returns-in-Ok-clause-modelled
+returns-in-Ok-clause-modelled g c modelled first w rest stands walked =
     leaves_ok _ _ rest stands c.in-Some.ensures.items c.access-allowed.ensures.live c.close.ensures.live walked
-    (c.close.ensures.told told) (c.in-Ok.ensures.told told)
+    (c.close.ensures.modelled modelled) (c.in-Ok.ensures.modelled modelled)
 
-pub returns-in-Err-clause-told : goal.returns-in-Err-clause-told
-returns-in-Err-clause-told g c told first w rest stands walked =
+pub returns-in-Err-clause-modelled : goal.returns-in-Err-clause-modelled
+returns-in-Err-clause-modelled g c modelled first w rest stands walked =
     leaves_err _ _ rest stands c.in-Some.ensures.items c.access-allowed.ensures.live c.close.ensures.live walked
-    (c.close.ensures.told told) c.in-Err.code (c.in-Err.ensures.told told)
+    (c.close.ensures.modelled modelled) c.in-Err.code (c.in-Err.ensures.modelled modelled)

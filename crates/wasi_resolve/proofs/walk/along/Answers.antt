@@ -17,9 +17,9 @@ loop-links-init g c = record {
   later = omega arith;
   most = refl;
   stands = λ first stands. stands;
-  lineage = traced_none _ _ _ _ _ refl (λ q has. has);
+  provenance = traced_none _ _ _ _ _ refl (λ q has. has);
   links_so_far = omega arith;
-  told = λ told first w stands walked.
+  modelled = λ modelled first w stands walked.
       so_starts (course_of c.args.aim.now c.args.has_slash) (parts_left c.args.way.now.left.items)
       (g.H.Host.lookups c.args.host.now) walked;
 }
@@ -27,57 +27,57 @@ loop-links-init g c = record {
 pub reach-requires : goal.reach-requires
 reach-requires g c = (c.requires.0, c.loop-links.invariant.stands _ c.requires.1)
 
-pub returns-in-Err-clause-told : goal.returns-in-Err-clause-told
-returns-in-Err-clause-told g c told first w stands walked =
-    let so = c.loop-links.invariant.told told first w stands walked in
-    elim (c.in-Err.ensures.told told first w so.taken (c.loop-links.invariant.stands first stands) so.walked) [
+pub returns-in-Err-clause-modelled : goal.returns-in-Err-clause-modelled
+returns-in-Err-clause-modelled g c modelled first w stands walked =
+    let so = c.loop-links.invariant.modelled modelled first w stands walked in
+    elim (c.in-Err.ensures.modelled modelled first w so.taken (c.loop-links.invariant.stands first stands) so.walked) [
       | inl fails ↦ so_fails (40 - (c.loop-links.links + 1)) c.in-Err.e so (omega arith)
           (fails_past c.loop-links.way.left.items c.reach.new.way.left.items c.in-Err.e fails c.in-Err.ensures.reads)
       | inr ends ↦ so_ends (Err c.in-Err.e) so
           (ends_past c.loop-links.way.left.items c.reach.new.way.left.items (Err c.in-Err.e) ends c.in-Err.ensures.reads)
     ]
 
-pub returns-in-Err-clause-lineage : goal.returns-in-Err-clause-lineage
-returns-in-Err-clause-lineage g c =
-    traced_last (λ q has. has) c.loop-links.invariant.lineage c.in-Err.ensures.lineage
+pub returns-in-Err-clause-provenance : goal.returns-in-Err-clause-provenance
+returns-in-Err-clause-provenance g c =
+    traced_last (λ q has. has) c.loop-links.invariant.provenance c.in-Err.ensures.provenance
 
-pub returns-in-Ok-Found-clause-told : goal.returns-in-Ok-Found-clause-told
-returns-in-Ok-Found-clause-told g c told first w stands walked =
-    let so = c.loop-links.invariant.told told first w stands walked in
+pub returns-in-Ok-Found-clause-modelled : goal.returns-in-Ok-Found-clause-modelled
+returns-in-Ok-Found-clause-modelled g c modelled first w stands walked =
+    let so = c.loop-links.invariant.modelled modelled first w stands walked in
     so_ends (Ok c.in-Ok-Found.found) so
     (ends_past c.loop-links.way.left.items c.reach.new.way.left.items (Ok c.in-Ok-Found.found)
-    (rw c.in-Ok-Found.field-0-is at (c.in-Ok-Found.ensures.told told first w so.taken
+    (rw c.in-Ok-Found.field-0-is at (c.in-Ok-Found.ensures.modelled modelled first w so.taken
     (c.loop-links.invariant.stands first stands) so.walked)) c.in-Ok-Found.ensures.reads)
 
-pub returns-in-Ok-Found-clause-lineage : goal.returns-in-Ok-Found-clause-lineage
-returns-in-Ok-Found-clause-lineage g c =
-    traced_last (λ q has. has) c.loop-links.invariant.lineage (rw c.in-Ok-Found.field-0-is at c.in-Ok-Found.ensures.lineage)
+pub returns-in-Ok-Found-clause-provenance : goal.returns-in-Ok-Found-clause-provenance
+returns-in-Ok-Found-clause-provenance g c =
+    traced_last (λ q has. has) c.loop-links.invariant.provenance (rw c.in-Ok-Found.field-0-is at c.in-Ok-Found.ensures.provenance)
 
 pub read_link-requires : goal.read_link-requires
 read_link-requires g c =
     rw c.top_of-here.ensures (top_live (rw c.in-Ok-Link.field-0-is at
     (c.in-Ok-Link.ensures.stands _ (c.loop-links.invariant.stands _ c.requires.1))))
 
-pub returns-in_err-slash-in-Ok-Link-clause-lineage : goal.returns-in_err-slash-in-Ok-Link-clause-lineage
-returns-in_err-slash-in-Ok-Link-clause-lineage g c =
+pub returns-in_err-slash-in-Ok-Link-clause-provenance : goal.returns-in_err-slash-in-Ok-Link-clause-provenance
+returns-in_err-slash-in-Ok-Link-clause-provenance g c =
     let residual = c.from_residual in
     let error = err_from_is_err_and residual.result residual.ensures.1 in
-    rw error.1 (traced_last (λ q has. has) c.loop-links.invariant.lineage
+    rw error.1 (traced_last (λ q has. has) c.loop-links.invariant.provenance
     (found_traced c.args.start c.loop-links.way.stack.items c.reach.new.way.stack.items c.top_of-here.ensures
-    (rw c.in-Ok-Link.field-0-is at c.in-Ok-Link.ensures.lineage) c.in_err-slash-in-Ok-Link.ensures.lineage))
+    (rw c.in-Ok-Link.field-0-is at c.in-Ok-Link.ensures.provenance) c.in_err-slash-in-Ok-Link.ensures.provenance))
 
-pub returns-in_err-slash-in-Ok-Link-clause-told : goal.returns-in_err-slash-in-Ok-Link-clause-told
-returns-in_err-slash-in-Ok-Link-clause-told g c told first w stands walked =
-    let so = c.loop-links.invariant.told told first w stands walked in
+pub returns-in_err-slash-in-Ok-Link-clause-modelled : goal.returns-in_err-slash-in-Ok-Link-clause-modelled
+returns-in_err-slash-in-Ok-Link-clause-modelled g c modelled first w stands walked =
+    let so = c.loop-links.invariant.modelled modelled first w stands walked in
     let now = c.loop-links.invariant.stands first stands in
-    let link = rw c.in-Ok-Link.field-0-is at (c.in-Ok-Link.ensures.told told first w so.taken now so.walked) in
+    let link = rw c.in-Ok-Link.field-0-is at (c.in-Ok-Link.ensures.modelled modelled first w so.taken now so.walked) in
     let on = on_top (rw c.in-Ok-Link.field-0-is at (c.in-Ok-Link.ensures.stands first now)) link.walked c.top_of-here.ensures in
     let residual = c.from_residual in
     let error = err_from_is_err_and residual.result residual.ensures.1 in
     let e = c.in_err-slash-in-Ok-Link.field-0.0 in
     rw (error.1, error.2) (so_fails (40 - (c.loop-links.links + 1)) e so (omega arith)
     (link_fails c.loop-links.way.left.items c.reach.new.way.left.items on link c.in-Ok-Link.ensures.reads
-    c.in_err-slash-in-Ok-Link.ensures.reads e (c.in_err-slash-in-Ok-Link.ensures.told told)))
+    c.in_err-slash-in-Ok-Link.ensures.reads e (c.in_err-slash-in-Ok-Link.ensures.modelled modelled)))
 
 pub loop-links-preserved : goal.loop-links-preserved
 loop-links-preserved g c = record {
@@ -87,11 +87,11 @@ loop-links-preserved g c = record {
   stands = λ first stands.
       stands_same (rw c.in-Ok-Link.field-0-is at
       (c.in-Ok-Link.ensures.stands first (c.loop-links.invariant.stands first stands))) c.in_ok-slash-in-Ok-Link.ensures.live;
-  lineage =
-      traced_then (λ q has. has) (λ q has. has) c.loop-links.invariant.lineage
-      (traced_then (λ q has. has) (λ q has. has) (rw c.in-Ok-Link.field-0-is at c.in-Ok-Link.ensures.lineage)
+  provenance =
+      traced_then (λ q has. has) (λ q has. has) c.loop-links.invariant.provenance
+      (traced_then (λ q has. has) (λ q has. has) (rw c.in-Ok-Link.field-0-is at c.in-Ok-Link.ensures.provenance)
       (traced_top c.args.start c.reach.new.way.stack.items c.top_of-here.ensures
-      (traced_stays c.args.start c.reach.new.way.stack.items c.in_ok-slash-in-Ok-Link.ensures.lineage)));
+      (traced_stays c.args.start c.reach.new.way.stack.items c.in_ok-slash-in-Ok-Link.ensures.provenance)));
   links_so_far =
       omega (
         arith,
@@ -99,62 +99,62 @@ loop-links-preserved g c = record {
         c.in-Ok-Link.ensures.reads.links,
         c.in_ok-slash-in-Ok-Link.ensures.reads.links,
       );
-  told = λ told first w stands walked.
-      let so = c.loop-links.invariant.told told first w stands walked in
+  modelled = λ modelled first w stands walked.
+      let so = c.loop-links.invariant.modelled modelled first w stands walked in
       let now = c.loop-links.invariant.stands first stands in
-      let link = rw c.in-Ok-Link.field-0-is at (c.in-Ok-Link.ensures.told told first w so.taken now so.walked) in
+      let link = rw c.in-Ok-Link.field-0-is at (c.in-Ok-Link.ensures.modelled modelled first w so.taken now so.walked) in
       let on = on_top (rw c.in-Ok-Link.field-0-is at (c.in-Ok-Link.ensures.stands first now)) link.walked c.top_of-here.ensures in
       so_turns (40 - (c.loop-links.links + 1)) so (omega arith)
       (link_past c.loop-links.way.left.items c.reach.new.way.left.items on link c.in-Ok-Link.ensures.reads
-      c.in_ok-slash-in-Ok-Link.ensures.reads c.in_ok-slash-in-Ok-Link.slash (c.in_ok-slash-in-Ok-Link.ensures.told told));
+      c.in_ok-slash-in-Ok-Link.ensures.reads c.in_ok-slash-in-Ok-Link.slash (c.in_ok-slash-in-Ok-Link.ensures.modelled modelled));
 }
 
 pub reach-requires-2 : goal.reach-requires-2
 reach-requires-2 g c = (c.requires.0, c.loop-links.invariant.stands _ c.requires.1)
 
-pub returns-in-Err-reach-clause-told : goal.returns-in-Err-reach-clause-told
-returns-in-Err-reach-clause-told g c told first w stands walked =
-    let so = c.loop-links.invariant.told told first w stands walked in
+pub returns-in-Err-reach-clause-modelled : goal.returns-in-Err-reach-clause-modelled
+returns-in-Err-reach-clause-modelled g c modelled first w stands walked =
+    let so = c.loop-links.invariant.modelled modelled first w stands walked in
     let given = c.in-Err-reach.ensures in
-    elim (given.told told first w so.taken (c.loop-links.invariant.stands first stands) so.walked) [
+    elim (given.modelled modelled first w so.taken (c.loop-links.invariant.stands first stands) so.walked) [
       | inl fails ↦ so_fails_last c.in-Err-reach.e so (omega arith) fails
           (fails_few c.loop-links.way.left.items c.reach-2.new.way.left.items fails given.reads)
       | inr ends ↦ so_ends (Err c.in-Err-reach.e) so
           (ends_past c.loop-links.way.left.items c.reach-2.new.way.left.items (Err c.in-Err-reach.e) ends given.reads)
     ]
 
-pub returns-in-Err-reach-clause-lineage : goal.returns-in-Err-reach-clause-lineage
-returns-in-Err-reach-clause-lineage g c =
-    traced_last (λ q has. has) c.loop-links.invariant.lineage c.in-Err-reach.ensures.lineage
+pub returns-in-Err-reach-clause-provenance : goal.returns-in-Err-reach-clause-provenance
+returns-in-Err-reach-clause-provenance g c =
+    traced_last (λ q has. has) c.loop-links.invariant.provenance c.in-Err-reach.ensures.provenance
 
-pub returns-in-Ok-Found-reach-clause-told : goal.returns-in-Ok-Found-reach-clause-told
-returns-in-Ok-Found-reach-clause-told g c told first w stands walked =
-    let so = c.loop-links.invariant.told told first w stands walked in
+pub returns-in-Ok-Found-reach-clause-modelled : goal.returns-in-Ok-Found-reach-clause-modelled
+returns-in-Ok-Found-reach-clause-modelled g c modelled first w stands walked =
+    let so = c.loop-links.invariant.modelled modelled first w stands walked in
     so_ends (Ok c.in-Ok-Found-reach.found) so
     (ends_past c.loop-links.way.left.items c.reach-2.new.way.left.items (Ok c.in-Ok-Found-reach.found)
-    (rw c.in-Ok-Found-reach.field-0-is at (c.in-Ok-Found-reach.ensures.told told first w so.taken
+    (rw c.in-Ok-Found-reach.field-0-is at (c.in-Ok-Found-reach.ensures.modelled modelled first w so.taken
     (c.loop-links.invariant.stands first stands) so.walked))
     c.in-Ok-Found-reach.ensures.reads)
 
-pub returns-in-Ok-Found-reach-clause-lineage : goal.returns-in-Ok-Found-reach-clause-lineage
-returns-in-Ok-Found-reach-clause-lineage g c =
-    traced_last (λ q has. has) c.loop-links.invariant.lineage
-    (rw c.in-Ok-Found-reach.field-0-is at c.in-Ok-Found-reach.ensures.lineage)
+pub returns-in-Ok-Found-reach-clause-provenance : goal.returns-in-Ok-Found-reach-clause-provenance
+returns-in-Ok-Found-reach-clause-provenance g c =
+    traced_last (λ q has. has) c.loop-links.invariant.provenance
+    (rw c.in-Ok-Found-reach.field-0-is at c.in-Ok-Found-reach.ensures.provenance)
 
-pub returns-in-Ok-Link-reach-clause-told : goal.returns-in-Ok-Link-reach-clause-told
-returns-in-Ok-Link-reach-clause-told g c told first w stands walked =
-    let so = c.loop-links.invariant.told told first w stands walked in
+pub returns-in-Ok-Link-reach-clause-modelled : goal.returns-in-Ok-Link-reach-clause-modelled
+returns-in-Ok-Link-reach-clause-modelled g c modelled first w stands walked =
+    let so = c.loop-links.invariant.modelled modelled first w stands walked in
     let link =
-    rw c.in-Ok-Link-reach.field-0-is at (c.in-Ok-Link-reach.ensures.told told first w so.taken
+    rw c.in-Ok-Link-reach.field-0-is at (c.in-Ok-Link-reach.ensures.modelled modelled first w so.taken
     (c.loop-links.invariant.stands first stands) so.walked) in
     so_loops so (omega arith) link
     (link_few c.loop-links.way.left.items c.reach-2.new.way.left.items link
     c.in-Ok-Link-reach.ensures.reads)
 
-pub returns-in-Ok-Link-reach-clause-lineage : goal.returns-in-Ok-Link-reach-clause-lineage
-returns-in-Ok-Link-reach-clause-lineage g c =
-    traced_less (traced_then (λ q has. has) (λ q has. has) c.loop-links.invariant.lineage
-    (rw c.in-Ok-Link-reach.field-0-is at c.in-Ok-Link-reach.ensures.lineage))
+pub returns-in-Ok-Link-reach-clause-provenance : goal.returns-in-Ok-Link-reach-clause-provenance
+returns-in-Ok-Link-reach-clause-provenance g c =
+    traced_less (traced_then (λ q has. has) (λ q has. has) c.loop-links.invariant.provenance
+    (rw c.in-Ok-Link-reach.field-0-is at c.in-Ok-Link-reach.ensures.provenance))
 
 pub returns-in-Ok-Found-clause-cause : goal.returns-in-Ok-Found-clause-cause
 returns-in-Ok-Found-clause-cause g c =

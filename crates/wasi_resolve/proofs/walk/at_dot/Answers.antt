@@ -7,39 +7,39 @@ use Rattle.wasi_host.proofs.Tracing.{traced_got_err}
 use Rattle.wasi_resolve.proofs.Lookups.{last_is}
 use Rattle.wasi_resolve.proofs.walk.at_dot.Goals as goal
 
-pub returns-in_ok-handle-in-Open-clause-told : goal.returns-in_ok-handle-in-Open-clause-told
-returns-in_ok-handle-in-Open-clause-told g c told =
+pub returns-in_ok-handle-in-Open-clause-modelled : goal.returns-in_ok-handle-in-Open-clause-modelled
+returns-in_ok-handle-in-Open-clause-modelled g c modelled =
     rw c.in-Open.is (dot_opened (sym c.is_write.ensures.value ∙ c.if-is_write.false)
     c.in_ok-handle-in-Open.ensures.live.1
-    (rw c.dot.ensures.bytes at (c.in_ok-handle-in-Open.ensures.told told)))
+    (rw c.dot.ensures.bytes at (c.in_ok-handle-in-Open.ensures.modelled modelled)))
 
-pub returns-in_err-handle-in-Open-clause-told : goal.returns-in_err-handle-in-Open-clause-told
-returns-in_err-handle-in-Open-clause-told g c told =
+pub returns-in_err-handle-in-Open-clause-modelled : goal.returns-in_err-handle-in-Open-clause-modelled
+returns-in_err-handle-in-Open-clause-modelled g c modelled =
     let error = err_from_is_err_and c.from_residual.result c.from_residual.ensures.1 in
     rw (error.1, error.2, c.in-Open.is) (dot_refused (sym c.is_write.ensures.value ∙ c.if-is_write.false)
     c.in_err-handle-in-Open.field-0.0 c.in_err-handle-in-Open.ensures.live
-    (rw c.dot.ensures.bytes at (c.in_err-handle-in-Open.ensures.told told)))
+    (rw c.dot.ensures.bytes at (c.in_err-handle-in-Open.ensures.modelled modelled)))
 
-pub returns-in_err-access-in-Look-clause-told : goal.returns-in_err-access-in-Look-clause-told
-returns-in_err-access-in-Look-clause-told g c told =
+pub returns-in_err-access-in-Look-clause-modelled : goal.returns-in_err-access-in-Look-clause-modelled
+returns-in_err-access-in-Look-clause-modelled g c modelled =
     let residual = c.from_residual-in_err-access-in-Look in
     let error = err_from_is_err_and residual.result residual.ensures.1 in
     rw (error.1, error.2, c.in-Look.is)
     (dot_denied c.in_err-access-in-Look.ensures.live c.in_err-access-in-Look.field-0.0
-    (c.in_err-access-in-Look.ensures.told told))
+    (c.in_err-access-in-Look.ensures.modelled modelled))
 
-pub returns-in_ok-metadata-in-Look-clause-told : goal.returns-in_ok-metadata-in-Look-clause-told
-returns-in_ok-metadata-in-Look-clause-told g c told =
+pub returns-in_ok-metadata-in-Look-clause-modelled : goal.returns-in_ok-metadata-in-Look-clause-modelled
+returns-in_ok-metadata-in-Look-clause-modelled g c modelled =
     rw c.in-Look.is (dot_seen c.access.ensures.live c.args.here refl c.requires c.in_ok-metadata-in-Look.ensures.live
-    (c.in_ok-access-in-Look.ensures.told told) (c.in_ok-metadata-in-Look.ensures.told told))
+    (c.in_ok-access-in-Look.ensures.modelled modelled) (c.in_ok-metadata-in-Look.ensures.modelled modelled))
 
-pub returns-in_err-metadata-in-Look-clause-told : goal.returns-in_err-metadata-in-Look-clause-told
-returns-in_err-metadata-in-Look-clause-told g c told =
+pub returns-in_err-metadata-in-Look-clause-modelled : goal.returns-in_err-metadata-in-Look-clause-modelled
+returns-in_err-metadata-in-Look-clause-modelled g c modelled =
     let residual = c.from_residual-in_err-metadata-in-Look in
     let error = err_from_is_err_and residual.result residual.ensures.1 in
     rw (error.1, error.2, c.in-Look.is) (dot_fault c.access.ensures.live c.args.here refl c.requires
-    c.in_err-metadata-in-Look.ensures.live (c.in_ok-access-in-Look.ensures.told told)
-    c.in_err-metadata-in-Look.field-0.0 (c.in_err-metadata-in-Look.ensures.told told))
+    c.in_err-metadata-in-Look.ensures.live (c.in_ok-access-in-Look.ensures.modelled modelled)
+    c.in_err-metadata-in-Look.field-0.0 (c.in_err-metadata-in-Look.ensures.modelled modelled))
 
 pub returns-in_err-handle-in-Open-clause-reads : goal.returns-in_err-handle-in-Open-clause-reads
 returns-in_err-handle-in-Open-clause-reads g c =
@@ -48,8 +48,8 @@ returns-in_err-handle-in-Open-clause-reads g c =
 pub returns-in_ok-handle-in-Open-clause-reads : goal.returns-in_ok-handle-in-Open-clause-reads
 returns-in_ok-handle-in-Open-clause-reads g c = few_piece _ c.in_ok-handle-in-Open.ensures.logged
 
-pub returns-in_err-handle-in-Open-clause-lineage : goal.returns-in_err-handle-in-Open-clause-lineage
-returns-in_err-handle-in-Open-clause-lineage g c =
+pub returns-in_err-handle-in-Open-clause-provenance : goal.returns-in_err-handle-in-Open-clause-provenance
+returns-in_err-handle-in-Open-clause-provenance g c =
     let error = err_from_is_err_and c.from_residual.result c.from_residual.ensures.1 in
     rw error.1 (traced_got_err _ _ _ Open c.args.here c.in_err-handle-in-Open.field-0.0
     c.in_err-handle-in-Open.ensures.logged)

@@ -13,18 +13,18 @@ use Rattle.wasi_resolve.proofs.Putting.{put_first}
 use Rattle.wasi_resolve.proofs.Answering.{with_got, stands_all, live_after, closed_resolved, from_start}
 use Rattle.wasi_resolve.proofs.walk.walk.Goals as goal
 
-pub returns-then-is_empty-clause-told : goal.returns-then-is_empty-clause-told
-returns-then-is_empty-clause-told g c told =
-    let w = g.H.Host.world c.args.host.now in
+pub returns-then-is_empty-clause-modelled : goal.returns-then-is_empty-clause-modelled
+returns-then-is_empty-clause-modelled g c modelled =
+    let w = g.H.Host.model c.args.host.now in
     subst (λ o. Resolved (g.H.Host.live c.args.host.now) w w (meant_at w.tree (aim_of c.args.aim.now)
     (w.held c.args.start).node o) (shown_found w.held) (Err (Code NoEntry)))
     (sym (ap (λ x. x.outcome) (walk_empty w.tree (w.held c.args.start).node c.args.path.now (aim_of c.args.aim.now)
     (aim_follows c.args.aim.now) (sym c.is_empty.ensures ∙ c.if-is_empty.true))))
     (stop_resolved (aim_of c.args.aim.now) NoEntry refl (looks_none _ _ _))
 
-pub returns-in_err-put_parts-clause-told : goal.returns-in_err-put_parts-clause-told
-returns-in_err-put_parts-clause-told g c told =
-    let w = g.H.Host.world c.args.host.now in
+pub returns-in_err-put_parts-clause-modelled : goal.returns-in_err-put_parts-clause-modelled
+returns-in_err-put_parts-clause-modelled g c modelled =
+    let w = g.H.Host.model c.args.host.now in
     let error = err_from_is_err_and c.from_residual.result c.from_residual.ensures.1 in
     rw (error.1, error.2) (fault_resolved (aim_of c.args.aim.now) _ (inl c.in_err-put_parts.ensures.memory)
     (looks_none _ w _))
@@ -45,14 +45,14 @@ returns-clause-live g c =
     live_after _ _ _ _ _ (handle_found c.along-found.result) stands (c.close_all.ensures.live _
     (stands_all _ _ _ _ (handle_found c.along-found.result) stands))
 
-pub returns-clause-lineage : goal.returns-clause-lineage
-returns-clause-lineage g c =
+pub returns-clause-provenance : goal.returns-clause-provenance
+returns-clause-provenance g c =
     rw c.close_all.ensures.logged
-    (from_start c.args.start c.new-stack.result.items c.new-stack.ensures.items c.along-found.ensures.lineage)
+    (from_start c.args.start c.new-stack.result.items c.new-stack.ensures.items c.along-found.ensures.provenance)
 
-pub returns-clause-told : goal.returns-clause-told
-returns-clause-told g c told =
-    let w = g.H.Host.world c.args.host.now in
+pub returns-clause-modelled : goal.returns-clause-modelled
+returns-clause-modelled g c modelled =
+    let w = g.H.Host.model c.args.host.now in
     let live = g.H.Host.live c.args.host.now in
     let empty = stands_empty c.requires c.new-stack.ensures.items in
     let stands = c.along-found.ensures.stands live empty in
@@ -60,18 +60,18 @@ returns-clause-told g c told =
     (comes_resolved c.args.path.now (sym c.is_empty.ensures
     ∙ c.if-is_empty.false) (put_first c.new-left.result.items c.put_parts.new.left.items c.args.path.now
     c.new-left.ensures.items c.in_ok-put_parts.ensures.parts) c.new-stack.ensures.items
-    (rw c.path_has_trailing_slash-slash.ensures.test at (c.along-found.ensures.told told live w empty
+    (rw c.path_has_trailing_slash-slash.ensures.test at (c.along-found.ensures.modelled modelled live w empty
     (walks_start c.new-stack.ensures.items))))
-    (c.close_all.ensures.told told _ (stands_all _ _ _ _ (handle_found c.along-found.result) stands))
+    (c.close_all.ensures.modelled modelled _ (stands_all _ _ _ _ (handle_found c.along-found.result) stands))
 
 pub returns-clause-bound : goal.returns-clause-bound
-returns-clause-bound g c told =
-    let w = g.H.Host.world c.args.host.now in
+returns-clause-bound g c modelled =
+    let w = g.H.Host.model c.args.host.now in
     let live = g.H.Host.live c.args.host.now in
     let empty = stands_empty c.requires c.new-stack.ensures.items in
     rw c.close_all.ensures.logged
     (comes_bound c.args.path.now (sym c.is_empty.ensures
     ∙ c.if-is_empty.false) (put_first c.new-left.result.items c.put_parts.new.left.items c.args.path.now
     c.new-left.ensures.items c.in_ok-put_parts.ensures.parts) c.new-stack.ensures.items
-    (rw c.path_has_trailing_slash-slash.ensures.test at (c.along-found.ensures.told told live w empty
+    (rw c.path_has_trailing_slash-slash.ensures.test at (c.along-found.ensures.modelled modelled live w empty
     (walks_start c.new-stack.ensures.items))))

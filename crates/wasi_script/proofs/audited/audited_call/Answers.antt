@@ -10,7 +10,7 @@ effect_of-requires c =
     let ready : IsReady c.args.context.now c.set_hostcall_fuel.new.self c.args.fuel = record {
       forgot = c.forget_touched.new.self;
       kept = c.forget_touched.ensures.kept;
-      world = c.forget_touched.ensures.world refl;
+      model = c.forget_touched.ensures.model refl;
       faults = c.forget_touched.ensures.faults;
       fueled = c.set_hostcall_fuel.ensures.set;
     } in
@@ -22,7 +22,7 @@ returns c =
     let ready : IsReady c.args.context.now c.set_hostcall_fuel.new.self c.args.fuel = record {
       forgot = c.forget_touched.new.self;
       kept = c.forget_touched.ensures.kept;
-      world = c.forget_touched.ensures.world refl;
+      model = c.forget_touched.ensures.model refl;
       faults = c.forget_touched.ensures.faults;
       fueled = c.set_hostcall_fuel.ensures.set;
     } in

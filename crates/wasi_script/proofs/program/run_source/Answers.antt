@@ -48,7 +48,7 @@ pub returns-in-Ok-text_of-clause-usage : goal.returns-in-Ok-text_of-clause-usage
 returns-in-Ok-text_of-clause-usage g c = no_usage c.written-in-Ok-text_of.ensures.written
 
 pub returns-in-Ok-text_of-clause-nothing : goal.returns-in-Ok-text_of-clause-nothing
-returns-in-Ok-text_of-clause-nothing g c = λ told. may_take c.written-in-Ok-text_of.ensures.written
+returns-in-Ok-text_of-clause-nothing g c = λ modelled. may_take c.written-in-Ok-text_of.ensures.written
 
 pub returns-in-Ok-text_of-clause-left : goal.returns-in-Ok-text_of-clause-left
 returns-in-Ok-text_of-clause-left g c = λ tells.

@@ -1,7 +1,7 @@
 use Rattle.std.proofs.Common.{ap, arith, length, ◌∙◌}
 use Rattle.wasi_form.specs.Plan.{planned}
 use Rattle.wasi_guest.proofs.Ranges.{written_back}
-use Rattle.wasi_host.specs.HostLaws.{World}
+use Rattle.wasi_host.specs.HostLaws.{HostModel}
 use Rattle.wasi_setup.proofs.Starts.{confined_at_start}
 use Rattle.wasi_script.proofs.Headlines.{begun_at, few_behind, has_run, run_seen, state_seen}
 use Rattle.wasi_script.proofs.run.run_over.Goals as goal
@@ -28,13 +28,13 @@ returns g c = λ nodes limits tree-is.
     let value = c.bytes_mut-bytes.ensures.value in
     let size = c.run_calls-ran.ensures.size ∙ ap length value in
     rw (written_back _ _ size) (record {
-      run = run_seen g.T.ScriptTree.seen tree.same_world now _ (has_run _ _
+      run = run_seen g.T.ScriptTree.seen tree.same_model now _ (has_run _ _
           (few_behind _ _ _ _ (tree.no_faults begun.host.inner) (tree.no_faults now.host.inner) begins.faults
           (rw same at c.run_calls-ran.ensures.most) (let v = c.args.session.faults in omega (arith, v.small, v.ok.0, v.ok.1)))
-          (state_seen g.T.ScriptTree.seen tree.same_world begun _ ∙ begun_at plan started begins.written)
+          (state_seen g.T.ScriptTree.seen tree.same_model begun _ ∙ begun_at plan started begins.written)
           (rw (same, value, begins.fuel, begins.calls) at (c.in-Ok.ensures.run tree.is_told)) (rw same at c.in-Ok.ensures.ios)
           ((rw (same, value) at (c.in-Ok.ensures.confined tree.is_told)) _
-          (confined_at_start _ (ap (λ (w : World). w.touched) (tree.same_world begun.host.inner) ∙ begins.begun.untouched))));
+          (confined_at_start _ (ap (λ (w : HostModel). w.touched) (tree.same_model begun.host.inner) ∙ begins.begun.untouched))));
       size = size ∙ begins.size;
       show = begins.show;
       calls = begins.calls;

@@ -2,12 +2,12 @@ use Rattle.std.proofs.Common.{◌≡◌, ℕ, ◌+◌, ◌++◌, List, refl, ◌
 use Rattle.std.specs.List.{range_with_len}
 use Rattle.std.proofs.lemmas.List.{map-append}
 use Rattle.std.proofs.lemmas.List.FromFn.{map-range_with_len_more}
-use Rattle.wasi_tree.specs.Given.{Given, given, new_given}
+use Rattle.wasi_tree.specs.NodeData.{NodeData, node_data, new_node_data}
 use Rattle.wasi_script_gen.specs.GenNodes.{content_of}
 use Rattle.wasi_script_gen.proofs.nodes.push_all.Goals as goal
 
 -- one more made behind those before it
-one_more : (made : ℕ → Given) (i : ℕ) (front : List Given) {all new : List Given} → all ≡ new ++ made i ∷ []
+one_more : (made : ℕ → NodeData) (i : ℕ) (front : List NodeData) {all new : List NodeData} → all ≡ new ++ made i ∷ []
     → new ≡ front ++ map made (range_with_len 0 i) → all ≡ front ++ map made (range_with_len 0 (i + 1))
 one_more made i front is so_far =
     let more = map-range_with_len_more made 0 i i (omega arith) in
@@ -15,13 +15,13 @@ one_more made i front is so_far =
 
 pub loop-i-preserved : goal.loop-i-preserved
 loop-i-preserved c =
-    let node = c.new.ensures.node ∙ ap new_given c.in_ok-content.ensures in
-    let pushed = ap (map given) c.in_ok-push.ensures.items ∙ map-append given c.loop-i.nodes.items (c.new.result ∷ [])
-    ∙ ap (λ g. map given c.loop-i.nodes.items ++ g ∷ []) node in
-    one_more (λ k. new_given (content_of c.args.n c.args.kind k)) c.loop-i.i (map given c.args.nodes.now.items) pushed c.loop-i.invariant
+    let node = c.new.ensures.node ∙ ap new_node_data c.in_ok-content.ensures in
+    let pushed = ap (map node_data) c.in_ok-push.ensures.items ∙ map-append node_data c.loop-i.nodes.items (c.new.result ∷ [])
+    ∙ ap (λ g. map node_data c.loop-i.nodes.items ++ g ∷ []) node in
+    one_more (λ k. new_node_data (content_of c.args.n c.args.kind k)) c.loop-i.i (map node_data c.args.nodes.now.items) pushed c.loop-i.invariant
 
 pub returns : goal.returns
 returns c =
     let end : c.loop-i.i ≡ c.args.n = omega arith in
-    subst (λ k. map given c.loop-i.nodes.items
-    ≡ map given c.args.nodes.now.items ++ map (λ i. new_given (content_of c.args.n c.args.kind i)) (range_with_len 0 k)) end c.loop-i.invariant
+    subst (λ k. map node_data c.loop-i.nodes.items
+    ≡ map node_data c.args.nodes.now.items ++ map (λ i. new_node_data (content_of c.args.n c.args.kind i)) (range_with_len 0 k)) end c.loop-i.invariant

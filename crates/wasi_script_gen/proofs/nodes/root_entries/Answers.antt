@@ -2,7 +2,7 @@ use Rattle.std.proofs.Common.{◌≡◌, map, sym, subst, arith}
 use Rattle.std.specs.List.{range_with_len}
 use Rattle.std.proofs.lemmas.List.{map-append}
 use Rattle.std.proofs.lemmas.List.FromFn.{map-range_with_len_more}
-use Rattle.wasi_tree.specs.Given.{pair_of}
+use Rattle.wasi_tree.specs.NodeData.{pair_of}
 use Rattle.wasi_script_gen.specs.GenNodes.{root_entry}
 use Rattle.wasi_script_gen.proofs.nodes.root_entries.Goals as goal
 

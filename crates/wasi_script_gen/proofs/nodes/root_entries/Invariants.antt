@@ -1,6 +1,6 @@
 use Rattle.std.proofs.Common.{◌≡◌, map}
 use Rattle.std.specs.List.{range_with_len}
-use Rattle.wasi_tree.specs.Given.{pair_of}
+use Rattle.wasi_tree.specs.NodeData.{pair_of}
 use Rattle.wasi_script_gen.specs.GenNodes.{root_entry}
 use Rattle.wasi_script_gen.proofs.nodes.root_entries.Given as goal
 

@@ -1,7 +1,7 @@
 use Rattle.std.proofs.Common.{◌∙◌, refl}
 use Rattle.std.proofs.lemmas.List.{map-append, take_more}
 use Rattle.wasi_form.specs.Plan.{planned_preopen}
-use Rattle.wasi_setup.proofs.Starts.{given_more, none_given, IsGivenTo}
+use Rattle.wasi_setup.proofs.Starts.{given_more, none_given, IsPreopenOf}
 use Rattle.wasi_setup.proofs.setup.preopen_handles.Goals as goal
 
 pub loop-preopen-init : goal.loop-preopen-init
@@ -20,7 +20,7 @@ loop-preopen-preserved g c =
       touched = handle.touched ∙ c.loop-preopen.invariant.touched;
       lookups = handle.lookups ∙ c.loop-preopen.invariant.lookups;
       given =
-          let is : IsGivenTo (g.T.ScriptTree.seen c.loop-preopen.tree).handles (g.T.ScriptTree.seen c.directory_handle.new.self).handles (planned_preopen c.preopen-item.result) _ = record {
+          let is : IsPreopenOf (g.T.ScriptTree.seen c.loop-preopen.tree).handles (g.T.ScriptTree.seen c.directory_handle.new.self).handles (planned_preopen c.preopen-item.result) _ = record {
             fresh = handle.fresh;
             live = handle.live;
             held = handle.held;

@@ -10,8 +10,8 @@ abbrev pub invariant-loop-count : goal.invariant-loop-count
 invariant-loop-count g l = record {
   live : g.H.Host.live l.host ≡ g.H.Host.live l.initial.host;
   on : (new : HostSeen) (end : FileOutputMode) (state : OutputState)
-      → WritesAll g.H.Host.told l.file (host_seen g.H.Host.faults g.H.Host.live g.H.Host.lookups g.H.Host.world l.host) l.at l.rest new end state
-      → WritesAll g.H.Host.told l.file (host_seen g.H.Host.faults g.H.Host.live g.H.Host.lookups g.H.Host.world l.initial.host) l.initial.at l.initial.rest new end state;
+      → WritesAll g.H.Host.modelled l.file (host_seen g.H.Host.faults g.H.Host.live g.H.Host.lookups g.H.Host.model l.host) l.at l.rest new end state
+      → WritesAll g.H.Host.modelled l.file (host_seen g.H.Host.faults g.H.Host.live g.H.Host.lookups g.H.Host.model l.initial.host) l.initial.at l.initial.rest new end state;
 }
 
 abbrev pub decreases-loop-count : goal.decreases-loop-count

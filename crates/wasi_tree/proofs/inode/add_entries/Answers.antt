@@ -1,7 +1,7 @@
 use Rattle.std.proofs.Common.{◌≡◌, ◌∙◌, map, refl, sym, ap, rules}
 use Rattle.std.specs.Vec.Iter.{into_iter_items}
 use Rattle.wasi_tree_index.specs.DirEntryKeys.{names_at}
-use Rattle.wasi_tree.specs.Given.{pair_of}
+use Rattle.wasi_tree.specs.NodeData.{pair_of}
 use Rattle.wasi_tree.proofs.NameLemmas.{with_firsts, firsts_of}
 use Rattle.wasi_tree.proofs.NamedLemmas.{others_same, others_then}
 use Rattle.wasi_tree.proofs.inode.add_entries.Goals as goal

@@ -2,7 +2,7 @@ use Rattle.std.proofs.Common.{◌≡◌, map}
 use Rattle.std.specs.FinMap as maps
 use Rattle.std.specs.Vec.Iter.{into_iter_items}
 use Rattle.wasi_tree_index.specs.DirEntryKeys.{names_at}
-use Rattle.wasi_tree.specs.Given.{pair_of}
+use Rattle.wasi_tree.specs.NodeData.{pair_of}
 use Rattle.wasi_tree.specs.StoredTree.{OtherNamesStay}
 use Rattle.wasi_tree.proofs.NameLemmas.{with_firsts}
 use Rattle.wasi_tree.proofs.inode.add_entries.Given as goal

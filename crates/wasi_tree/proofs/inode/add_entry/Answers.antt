@@ -1,6 +1,6 @@
 use Rattle.std.proofs.Common.{◌∙◌, ap}
 use Rattle.std.specs.FinMap.{insert}
-use Rattle.wasi_tree.specs.Given.{pair_of}
+use Rattle.wasi_tree.specs.NodeData.{pair_of}
 use Rattle.wasi_tree.proofs.NamedLemmas.{first_there, first_put, others_put}
 use Rattle.wasi_tree.proofs.inode.add_entry.Goals as goal
 

@@ -1,5 +1,5 @@
 use Rattle.std.proofs.Common.{◌≡◌, ◌++◌, map, length}
-use Rattle.wasi_tree.specs.Given.{pair_of}
+use Rattle.wasi_tree.specs.NodeData.{pair_of}
 use Rattle.wasi_tree.proofs.inode.new_entries.Given as goal
 
 abbrev pub invariant-loop-name : goal.invariant-loop-name

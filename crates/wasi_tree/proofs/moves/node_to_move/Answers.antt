@@ -1,7 +1,7 @@
 use Rattle.std.proofs.Common.{◌≡◌, ◌∙◌, Some, None, sym}
 use Rattle.std.proofs.lemmas.Result.{err_from_is_err_and}
 use Rattle.wasi_paths.specs.Name.{name_bytes}
-use Rattle.wasi_host.specs.Refusal.{first_rule, loop_rows}
+use Rattle.wasi_host.specs.Refusal.{first_rule, loop_rules}
 use Rattle.wasi_tree.proofs.RenameLemmas.{Holds, Free, naming_refused, loop_refused, onto_itself, moving_refuses, step_stays, step_moves, may_move}
 use Rattle.wasi_tree.proofs.TouchedLemmas.{none_of}
 use Rattle.wasi_tree.proofs.moves.node_to_move.Goals as goal
@@ -29,7 +29,7 @@ returns-in-Some-clause-refusal g c =
     (sym (loop_refused (held g at.In_ok-node) (sym c.in-Some.ensures)))
 
 loops : (g : Over) (c : In_default g)
-    → first_rule (loop_rows (g.S.NodeStore.seen c.args.store.now).tree c.args.from.now.directory c.args.to.now.directory (Some c.in_ok-node.node)
+    → first_rule (loop_rules (g.S.NodeStore.seen c.args.store.now).tree c.args.from.now.directory c.args.to.now.directory (Some c.in_ok-node.node)
     c.args.to.now.found) ≡ None
 loops g c = sym c.refuse_loop.ensures ∙ none_of _ c.in_default.not-Some
 
@@ -51,7 +51,7 @@ returns-in-Some-refuse_move-clause-refusal g c =
 
 -- no row refuses
 free : (g : Over) (c : In_default-refuse_move g)
-    → first_rule (loop_rows (g.S.NodeStore.seen c.args.store.now).tree c.args.from.now.directory c.args.to.now.directory (Some c.in_ok-node.node)
+    → first_rule (loop_rules (g.S.NodeStore.seen c.args.store.now).tree c.args.from.now.directory c.args.to.now.directory (Some c.in_ok-node.node)
     c.args.to.now.found) ≡ None
     → Free (g.S.NodeStore.seen c.args.store.now).tree c.args.from.now.directory c.args.to.now.directory c.in_ok-node.node c.args.to.now.found
 free g c loop_free = record {

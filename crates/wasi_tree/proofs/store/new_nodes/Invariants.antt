@@ -1,10 +1,10 @@
 use Rattle.std.proofs.Common.{◌≡◌, length, map, take}
-use Rattle.wasi_tree.specs.Given.{given, given_of}
+use Rattle.wasi_tree.specs.NodeData.{node_data, data_of_node}
 use Rattle.wasi_tree.specs.StoredTree.{stored_node, named_from}
 use Rattle.wasi_tree.proofs.store.new_nodes.Given as goal
 
-abbrev pub invariant-loop-row : goal.invariant-loop-row
-invariant-loop-row l = record {
-  told : map given l.nodes.items ≡ map given_of (named_from l.names.names 0 (map stored_node (take l.row-index l.rows)));
-  count : length l.nodes.items ≡ l.row-index;
+abbrev pub invariant-loop-inode : goal.invariant-loop-inode
+invariant-loop-inode l = record {
+  told : map node_data l.nodes.items ≡ map data_of_node (named_from l.names.names 0 (map stored_node (take l.inode-index l.inodes)));
+  count : length l.nodes.items ≡ l.inode-index;
 }

@@ -5,14 +5,14 @@ use Rattle.wasi_tree.proofs.way.is_below.Goals as goal
 
 pub returns-then-here-top : goal.returns-then-here-top
 returns-then-here-top g c =
-    let left : ℕ = length (g.P.TellsParents.told c.args.parents.now) - c.loop-step._step in
+    let left : ℕ = length (g.P.ParentLookup.known_parents c.args.parents.now) - c.loop-step._step in
     sym (way_here _ left c.args.top c.loop-step.here c.if-here-top.true)
     ∙ c.loop-step.invariant left (omega (arith, c.count-step-end.ensures, c.loop-step-test.true))
 
 -- with no directory above
 pub returns-in_default : goal.returns-in_default
 returns-in_default g c =
-    let left : ℕ = length (g.P.TellsParents.told c.args.parents.now) - (c.loop-step._step + 1) in
+    let left : ℕ = length (g.P.ParentLookup.known_parents c.args.parents.now) - (c.loop-step._step + 1) in
     sym (way_stops _ left c.args.top c.loop-step.here c.if-here-top.false
     (sym c.parent.ensures ∙ none_of _ c.in_default.not-Some))
     ∙ c.loop-step.invariant (left + 1) (omega (arith, c.count-step-end.ensures, c.loop-step-test.true))

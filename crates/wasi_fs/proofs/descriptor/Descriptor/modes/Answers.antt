@@ -6,13 +6,13 @@ use Rattle.wasi_host.specs.declared.errors.HostError.TheVariants.{Code}
 use Rattle.wasi_fs.proofs.Once.{once}
 use Rattle.wasi_fs.proofs.descriptor.Descriptor.modes.Goals as goal
 
-pub returns-in_err-flags-clause-told : goal.returns-in_err-flags-clause-told
-returns-in_err-flags-clause-told g c = λ told.
+pub returns-in_err-flags-clause-modelled : goal.returns-in_err-flags-clause-modelled
+returns-in_err-flags-clause-modelled g c = λ modelled.
     let error = err_from_is_err_and c.from_residual.result c.from_residual.ensures.1 in
     rw (error.1, error.2, ← c.handle.ensures.handle) (once (Flags _) _ (Err (Code c.in_err-flags.field-0.0))
-    (Contains-push [] _) c.flags.ensures.live (c.in_err-flags.ensures.told told))
+    (Contains-push [] _) c.flags.ensures.live (c.in_err-flags.ensures.modelled modelled))
 
-pub returns-clause-told : goal.returns-clause-told
-returns-clause-told g c = λ told.
+pub returns-clause-modelled : goal.returns-clause-modelled
+returns-clause-modelled g c = λ modelled.
     rw (← c.handle.ensures.handle)
-    (once (Flags _) _ (Ok c.in_ok-flags.field-0) (Contains-push [] _) c.flags.ensures.live (c.in_ok-flags.ensures.told told))
+    (once (Flags _) _ (Ok c.in_ok-flags.field-0) (Contains-push [] _) c.flags.ensures.live (c.in_ok-flags.ensures.modelled modelled))

@@ -4,6 +4,6 @@ use Rattle.wasi_host.specs.HostCall.{SetSize}
 use Rattle.wasi_fs.proofs.Once.{once}
 use Rattle.wasi_fs.proofs.descriptor.File.set_size.Goals as goal
 
-pub returns-clause-told : goal.returns-clause-told
-returns-clause-told g c = λ told _.
-    once (SetSize _ _) _ c.set_size.result (Contains-push [] _) c.set_size.ensures.live (c.set_size.ensures.told told)
+pub returns-clause-modelled : goal.returns-clause-modelled
+returns-clause-modelled g c = λ modelled _.
+    once (SetSize _ _) _ c.set_size.result (Contains-push [] _) c.set_size.ensures.live (c.set_size.ensures.modelled modelled)

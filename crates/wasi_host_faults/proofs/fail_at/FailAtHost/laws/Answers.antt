@@ -8,5 +8,5 @@ returns-clause-most g c =
     rw (← c.self.view_is) (omega (arith, c.laws.ensures.most, met_within c.self.inside.schedule))
 
 pub returns-clause-alone : goal.returns-clause-alone
-returns-clause-alone g c = λ told.
-    rw (← c.self.view_is) (alone_too _ c.self.inside.schedule (c.laws.ensures.alone told))
+returns-clause-alone g c = λ modelled.
+    rw (← c.self.view_is) (alone_too _ c.self.inside.schedule (c.laws.ensures.alone modelled))

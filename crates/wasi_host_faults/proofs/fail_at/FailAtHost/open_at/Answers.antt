@@ -14,15 +14,15 @@ returns-in-Ok-clause-live g c =
     ∙ remove-insert _ _ c.in-Ok.ensures.live.0)
 
 -- the handle was got and closed again; what is between is the world after the open
-pub returns-in-Ok-clause-told : goal.returns-in-Ok-clause-told
-returns-in-Ok-clause-told g c = λ told.
+pub returns-in-Ok-clause-modelled : goal.returns-in-Ok-clause-modelled
+returns-in-Ok-clause-modelled g c = λ modelled.
     rw (← c.self.view_is) (told_closed (λ h old. rw c.in-Ok.ensures.live.1 (grind (arith, members, nat_tests)))
-    (c.close.ensures.told told) (c.in-Ok.ensures.told told))
+    (c.close.ensures.modelled modelled) (c.in-Ok.ensures.modelled modelled))
 
 pub returns-in-Ok-clause-found : goal.returns-in-Ok-clause-found
 returns-in-Ok-clause-found g c = λ tells.
     rw (← c.self.view_is) (elim (c.in-Ok.ensures.found tells) [
-      | inl told ↦ inl (told_closed (λ h old. rw c.in-Ok.ensures.live.1 (grind (arith, members, nat_tests)))
-          (c.close.ensures.left tells) told)
+      | inl modelled ↦ inl (told_closed (λ h old. rw c.in-Ok.ensures.live.1 (grind (arith, members, nat_tests)))
+          (c.close.ensures.left tells) modelled)
       | inr failed ↦ absurd (cc)
     ])

@@ -10,8 +10,8 @@ use Rattle.wasi_overlay.proofs.over_nodes.OverNodes.push.Goals as goal
 use Rattle.wasi_overlay.proofs.over_nodes.OverNodes.push.Goals.{After-begin, After-count-n}
 
 -- its seat begins
-begins : (c : After-begin) → c.begin.new.self ≡ seat_changed c.self.inside.seats c.count-n.result (λ _. begun c.self.inside.round (stored_node c.args.row))
-begins c = c.begin.ensures (stored_node c.args.row) c.metadata.ensures c.is_gone-gone.ensures
+begins : (c : After-begin) → c.begin.new.self ≡ seat_changed c.self.inside.seats c.count-n.result (λ _. begun c.self.inside.round (stored_node c.args.inode))
+begins c = c.begin.ensures (stored_node c.args.inode) c.metadata.ensures c.is_gone-gone.ensures
 
 -- the number of the node
 number : (c : After-count-n) → c.count-n.result ≡ length c.args.self.now.nodes
@@ -27,21 +27,21 @@ seated c =
 
 pub invariant_of-self : goal.invariant_of-self
 invariant_of-self c =
-    rounds_changed c.self.inside.round c.count-n.result c.self.inside.seats c.begin.new.self (λ _. begun c.self.inside.round (stored_node c.args.row))
+    rounds_changed c.self.inside.round c.count-n.result c.self.inside.seats c.begin.new.self (λ _. begun c.self.inside.round (stored_node c.args.inode))
     c.self.invariant (λ _ _. omega arith) (begins (goal.at.invariant_of-self c).After-begin)
 
 pub returns-clause-nodes : goal.returns-clause-nodes
 returns-clause-nodes c =
     ap (over_from c.begin.new.self 0) c.push.ensures
-    ∙ over_pushed c.self.inside.seats c.begin.new.self c.self.inside.below.nodes (stored_node c.args.row)
+    ∙ over_pushed c.self.inside.seats c.begin.new.self c.self.inside.below.nodes (stored_node c.args.inode)
     c.self.inside.round c.count-n.result c.count-n.ensures (begins (goal.at.returns-clause-nodes c).After-begin)
     (sym (contains-held_in c.self.inside.seats c.count-n.result) ∙ seated (goal.at.returns-clause-nodes c).After-count-n)
-    ∙ ap (λ (u : OverState). u.nodes ++ stored_node c.args.row ∷ []) c.self.view_is
+    ∙ ap (λ (u : OverState). u.nodes ++ stored_node c.args.inode ∷ []) c.self.view_is
 
 pub returns-clause-worked : goal.returns-clause-worked
 returns-clause-worked c =
     ap (λ (s : SeatMap). numbers_with is_worked s) (begins (goal.at.returns-clause-worked c).After-begin)
-    ∙ numbers_more is_worked c.self.inside.seats c.count-n.result (λ _. begun c.self.inside.round (stored_node c.args.row)) (λ _. refl)
+    ∙ numbers_more is_worked c.self.inside.seats c.count-n.result (λ _. begun c.self.inside.round (stored_node c.args.inode)) (λ _. refl)
     (seated (goal.at.returns-clause-worked c).After-count-n)
     ∙ ap (insert (numbers_with is_worked c.self.inside.seats)) (number (goal.at.returns-clause-worked c).After-count-n)
     ∙ ap (λ (u : OverState). insert u.worked (length c.args.self.now.nodes)) c.self.view_is
@@ -49,7 +49,7 @@ returns-clause-worked c =
 pub returns-clause-touched : goal.returns-clause-touched
 returns-clause-touched c =
     ap (λ (s : SeatMap). numbers_with (is_touched c.self.inside.round) s) (begins (goal.at.returns-clause-touched c).After-begin)
-    ∙ numbers_more (is_touched c.self.inside.round) c.self.inside.seats c.count-n.result (λ _. begun c.self.inside.round (stored_node c.args.row)) (λ _. itself c.self.inside.round)
+    ∙ numbers_more (is_touched c.self.inside.round) c.self.inside.seats c.count-n.result (λ _. begun c.self.inside.round (stored_node c.args.inode)) (λ _. itself c.self.inside.round)
     (seated (goal.at.returns-clause-touched c).After-count-n)
     ∙ ap (insert (numbers_with (is_touched c.self.inside.round) c.self.inside.seats)) (number (goal.at.returns-clause-touched c).After-count-n)
     ∙ ap (λ (u : OverState). insert u.touched (length c.args.self.now.nodes)) c.self.view_is
@@ -57,12 +57,12 @@ returns-clause-touched c =
 pub returns-clause-held : goal.returns-clause-held
 returns-clause-held c =
     ap (λ (s : SeatMap). contains (held_in s) (length c.args.self.now.nodes)) (begins (goal.at.returns-clause-held c).After-begin)
-    ∙ ap (λ h. contains h (length c.args.self.now.nodes)) (held_changed c.self.inside.seats c.count-n.result (λ _. begun c.self.inside.round (stored_node c.args.row)))
+    ∙ ap (λ h. contains h (length c.args.self.now.nodes)) (held_changed c.self.inside.seats c.count-n.result (λ _. begun c.self.inside.round (stored_node c.args.inode)))
     ∙ ap (contains (held_in c.self.inside.seats)) (sym (number (goal.at.returns-clause-held c).After-count-n))
     ∙ seated (goal.at.returns-clause-held c).After-count-n
 
 pub returns-clause-grows : goal.returns-clause-grows
 returns-clause-grows c = λ m held.
     ap (λ (s : SeatMap). contains (held_in s) m) (begins (goal.at.returns-clause-grows c).After-begin)
-    ∙ ap (λ h. contains h m) (held_changed c.self.inside.seats c.count-n.result (λ _. begun c.self.inside.round (stored_node c.args.row)))
+    ∙ ap (λ h. contains h m) (held_changed c.self.inside.seats c.count-n.result (λ _. begun c.self.inside.round (stored_node c.args.inode)))
     ∙ ap (λ (u : OverState). contains u.held m) c.self.view_is ∙ held

@@ -15,14 +15,14 @@ copied c = record {
   limits = ap (λ (o : Overlaid). o.tree.limits) c.self.view_is;
 }
 
-pub of_rows-requires-clause-stored : goal.of_rows-requires-clause-stored
-of_rows-requires-clause-stored c = copied_stored (copied (goal.at.of_rows-requires-clause-stored c).After-to_vec)
+pub of_stored-requires-clause-stored : goal.of_stored-requires-clause-stored
+of_stored-requires-clause-stored c = copied_stored (copied (goal.at.of_stored-requires-clause-stored c).After-to_vec)
     (subst (λ (o : Overlaid). IsSound o.tree (next_of o.tree)) c.self.view_is c.self.invariant.sound)
 
-pub of_rows-requires-clause-stand : goal.of_rows-requires-clause-stand
-of_rows-requires-clause-stand c = copied_stand (copied (goal.at.of_rows-requires-clause-stand c).After-to_vec)
+pub of_stored-requires-clause-stand : goal.of_stored-requires-clause-stand
+of_stored-requires-clause-stand c = copied_stand (copied (goal.at.of_stored-requires-clause-stand c).After-to_vec)
     (rw c.in_ok-parents.ensures (subst (λ (o : Overlaid). AreParents o.tree c.self.inside.parents.parents) c.self.view_is c.self.invariant.kept.stand))
 
 pub returns-clause-tree : goal.returns-clause-tree
 returns-clause-tree c =
-    IfOk-weaker c.of_rows.result _ _ (λ m is. is ∙ copied_tree (copied (goal.at.returns-clause-tree c).After-to_vec)) c.of_rows.ensures.tree
+    IfOk-weaker c.of_stored.result _ _ (λ m is. is ∙ copied_tree (copied (goal.at.returns-clause-tree c).After-to_vec)) c.of_stored.ensures.tree

@@ -1,12 +1,12 @@
 use Rattle.std.proofs.Common.{◌∙◌, ap}
 use Rattle.wasi_tree_index.specs.DirEntryKeys.{names_at}
-use Rattle.wasi_overlay.specs.OverStore.{parts_of}
+use Rattle.wasi_overlay.specs.OverStore.{overlay_parts}
 use Rattle.wasi_overlay.proofs.Beginning.{Begun, begun_over, begun_tree}
 use Rattle.wasi_overlay.proofs.over_store.OverStore.new.Goals as goal
 use Rattle.wasi_overlay.proofs.over_store.OverStore.new.Goals.{After-first}
 
 begun : (c : After-first) → Begun c.args.base.now.tree c.args.base.now.parents
-    (parts_of c.new.result c.new-2.result c.limits.result) c.new-3.result.parents
+    (overlay_parts c.new.result c.new-2.result c.limits.result) c.new-3.result.parents
 begun c = record {
   nodes = c.new.ensures.nodes;
   here = λ d directory. ap (λ names. names_at names d) c.new-2.ensures ∙ c.all_names.ensures.here d directory;

@@ -1,15 +1,15 @@
 use Rattle.std.proofs.Common.{◌∙◌, sym}
-use Rattle.wasi_overlay.proofs.Contents.{given_directory, given_file, given_link}
+use Rattle.wasi_overlay.proofs.Contents.{data_of_directory, data_of_file, data_of_link}
 use Rattle.wasi_overlay.proofs.over_store.OverStore.new_content.Goals as goal
 
 pub returns-then-is_directory : goal.returns-then-is_directory
 returns-then-is_directory c =
-    given_directory _ _ (sym c.is_directory.ensures ∙ c.if-is_directory.true) c.in_ok-new_entries.ensures
+    data_of_directory _ _ (sym c.is_directory.ensures ∙ c.if-is_directory.true) c.in_ok-new_entries.ensures
 
 pub returns-then-is_file : goal.returns-then-is_file
 returns-then-is_file c =
-    given_file _ _ (sym c.is_file.ensures ∙ c.if-is_file.true) (c.in_ok-from_slice.ensures.items ∙ c.bytes.ensures)
+    data_of_file _ _ (sym c.is_file.ensures ∙ c.if-is_file.true) (c.in_ok-from_slice.ensures.items ∙ c.bytes.ensures)
 
 pub returns : goal.returns
-returns c = given_link _ _ (sym c.is_directory.ensures ∙ c.if-is_directory.false) (sym c.is_file.ensures ∙ c.if-is_file.false)
+returns c = data_of_link _ _ (sym c.is_directory.ensures ∙ c.if-is_directory.false) (sym c.is_file.ensures ∙ c.if-is_file.false)
     (c.in_ok-from_str.ensures.ok ∙ c.text.ensures.text)

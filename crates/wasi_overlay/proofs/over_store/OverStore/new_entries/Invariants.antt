@@ -1,7 +1,7 @@
 use Rattle.std.proofs.Common.{◌≡◌, ◌++◌, map, length}
 use Rattle.std.specs.FinMap as maps
 use Rattle.wasi_host.specs.Tree.{node_at, names_of}
-use Rattle.wasi_tree.specs.Given.{pair_of}
+use Rattle.wasi_tree.specs.NodeData.{pair_of}
 use Rattle.wasi_overlay.proofs.over_store.OverStore.new_entries.Given as goal
 
 abbrev pub invariant-loop-name : goal.invariant-loop-name

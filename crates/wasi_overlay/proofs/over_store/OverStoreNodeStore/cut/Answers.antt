@@ -1,17 +1,17 @@
 use Rattle.std.proofs.Common.{refl}
 use Rattle.wasi_host.specs.Step.{other_bytes, with_size}
-use Rattle.wasi_overlay.specs.OverStore.{parts_of}
+use Rattle.wasi_overlay.specs.OverStore.{overlay_parts}
 use Rattle.wasi_overlay.proofs.OverSteps.{IsWritten, over_after, plain_bytes, shown_as, stays_after, writes}
 use Rattle.wasi_overlay.proofs.TreeOver.{within_over}
 use Rattle.wasi_overlay.proofs.over_store.OverStoreNodeStore.cut.Goals as goal
 
 pub cut-requires-clause-within : goal.cut-requires-clause-within
-cut-requires-clause-within c = within_over (parts_of c.self.inside.nodes c.self.inside.names c.self.inside.limits) c.self.view_is c.requires.within
+cut-requires-clause-within c = within_over (overlay_parts c.self.inside.nodes c.self.inside.names c.self.inside.limits) c.self.view_is c.requires.within
 
 written : (c : goal.After-cut)
-    → IsWritten (other_bytes (with_size 0)) (parts_of c.self.inside.nodes c.self.inside.names c.self.inside.limits) (parts_of c.cut.new.self c.self.inside.names c.self.inside.limits) c.args.file
+    → IsWritten (other_bytes (with_size 0)) (overlay_parts c.self.inside.nodes c.self.inside.names c.self.inside.limits) (overlay_parts c.cut.new.self c.self.inside.names c.self.inside.limits) c.args.file
 written c = record {
-  within = within_over (parts_of c.self.inside.nodes c.self.inside.names c.self.inside.limits) c.self.view_is c.requires.within;
+  within = within_over (overlay_parts c.self.inside.nodes c.self.inside.names c.self.inside.limits) c.self.view_is c.requires.within;
   nodes = c.cut.ensures.nodes;
   worked = c.cut.ensures.worked;
   names = refl;

@@ -6,30 +6,30 @@ use Rattle.wasi_host.specs.Tree.{stray}
 use Rattle.wasi_host.specs.Step.{with_content, name_dropped, name_lost}
 use Rattle.wasi_host.proofs.Changes.{directory_within}
 use Rattle.wasi_tree.specs.Move.{HasName}
-use Rattle.wasi_overlay.specs.OverStore.{Overlaid, Parts, parts_of, tree_over}
+use Rattle.wasi_overlay.specs.OverStore.{Overlaid, OverlayParts, overlay_parts, tree_over}
 use Rattle.wasi_overlay.proofs.OverSteps.{IsStep, drops, over_after, shown_as, stays_after}
 use Rattle.wasi_overlay.proofs.TreeOver.{over_next, within_over}
 use Rattle.wasi_overlay.proofs.over_store.OverStoreNodeStore.drop_name.Goals as goal
 use Rattle.wasi_overlay.proofs.over_store.OverStoreNodeStore.drop_name.Goals.{After-hold, After-set}
 
-has : (c : After-hold) → HasName (tree_over (parts_of c.self.inside.nodes c.self.inside.names c.self.inside.limits)) c.args.directory (name_bytes c.args.name) c.args.node
+has : (c : After-hold) → HasName (tree_over (overlay_parts c.self.inside.nodes c.self.inside.names c.self.inside.limits)) c.args.directory (name_bytes c.args.name) c.args.node
 has c = subst (λ (o : Overlaid). HasName o.tree c.args.directory (name_bytes c.args.name) c.args.node) (sym c.self.view_is) c.requires.has
 
 pub work-requires-clause-within : goal.work-requires-clause-within
 work-requires-clause-within c =
     let directory = (has (goal.at.work-requires-clause-within c).After-hold).directory in
-    omega (arith, directory_within _ _ directory, over_next (parts_of c.self.inside.nodes c.self.inside.names c.self.inside.limits))
+    omega (arith, directory_within _ _ directory, over_next (overlay_parts c.self.inside.nodes c.self.inside.names c.self.inside.limits))
 
 pub lose_name-requires-clause-within : goal.lose_name-requires-clause-within
 lose_name-requires-clause-within c =
-    rw c.work.ensures.nodes (within_over (parts_of c.self.inside.nodes c.self.inside.names c.self.inside.limits) c.self.view_is c.requires.has.within)
+    rw c.work.ensures.nodes (within_over (overlay_parts c.self.inside.nodes c.self.inside.names c.self.inside.limits) c.self.view_is c.requires.has.within)
 
 step : (c : After-set)
-    → IsStep (parts_of c.self.inside.nodes c.self.inside.names c.self.inside.limits) (parts_of c.lose_name.new.self c.take.new.self c.self.inside.limits)
-    (name_dropped (tree_over (parts_of c.self.inside.nodes c.self.inside.names c.self.inside.limits)) c.args.directory (name_bytes c.args.name) name_lost c.args.node)
+    → IsStep (overlay_parts c.self.inside.nodes c.self.inside.names c.self.inside.limits) (overlay_parts c.lose_name.new.self c.take.new.self c.self.inside.limits)
+    (name_dropped (tree_over (overlay_parts c.self.inside.nodes c.self.inside.names c.self.inside.limits)) c.args.directory (name_bytes c.args.name) name_lost c.args.node)
     (slice_set c.self.inside.parents.parents c.args.node None)
 step c = drops (subst (λ (o : Overlaid). HasName o.tree c.args.directory (name_bytes c.args.name) c.args.node) (sym c.self.view_is) c.requires.has)
-    (λ i. let parts : Parts = record {
+    (λ i. let parts : OverlayParts = record {
       nodes = (c.lose_name.ensures.nodes
           ∙ ap (λ nodes. slice_set nodes c.args.node (with_content (slice_index_or nodes c.args.node stray) name_lost)) c.work.ensures.nodes) i;
       names = (c.in_ok-take.ensures.taken

@@ -1,11 +1,11 @@
 use Rattle.std.proofs.Common.{◌∙◌, refl}
 use Rattle.wasi_host.specs.Tree.{is_link}
-use Rattle.wasi_overlay.specs.OverStore.{parts_of}
+use Rattle.wasi_overlay.specs.OverStore.{overlay_parts}
 use Rattle.wasi_overlay.proofs.TreeOver.{over_says, within_over}
 use Rattle.wasi_overlay.proofs.over_store.OverStoreNodeStore.is_link.Goals as goal
 
 pub is_link-requires : goal.is_link-requires
-is_link-requires c = within_over (parts_of c.self.inside.nodes c.self.inside.names c.self.inside.limits) c.self.view_is c.requires
+is_link-requires c = within_over (overlay_parts c.self.inside.nodes c.self.inside.names c.self.inside.limits) c.self.view_is c.requires
 
 pub returns : goal.returns
-returns c = rw (← c.self.view_is) (c.is_link.ensures ∙ over_says (parts_of c.self.inside.nodes c.self.inside.names c.self.inside.limits) is_link (λ _ _ _. refl) c.args.n)
+returns c = rw (← c.self.view_is) (c.is_link.ensures ∙ over_says (overlay_parts c.self.inside.nodes c.self.inside.names c.self.inside.limits) is_link (λ _ _ _. refl) c.args.n)

@@ -7,7 +7,7 @@ use Rattle.wasi_host.specs.Answer.{Listed, entry_of, listed}
 use Rattle.wasi_host.specs.Tree.{Tree, node_at, names_of, next_of, is_directory}
 use Rattle.wasi_tree.specs.Sound.{IsSoundNode}
 use Rattle.wasi_tree.proofs.ListLemmas.{listed_good}
-use Rattle.wasi_overlay.specs.OverStore.{Overlaid, parts_of, tree_over}
+use Rattle.wasi_overlay.specs.OverStore.{Overlaid, overlay_parts, tree_over}
 use Rattle.wasi_overlay.proofs.TreeOver.{names_over}
 use Rattle.wasi_overlay.proofs.over_store.OverStoreNodeStore.list_names.Goals as goal
 
@@ -15,8 +15,8 @@ pub loop-name-init : goal.loop-name-init
 loop-name-init c =
     let directory = subst (λ (o : Overlaid). is_directory (node_at o.tree c.args.directory).content ≡ true) (sym c.self.view_is) c.requires in
     rw (← c.self.view_is)
-    (ap (λ es. map entry_of es ++ map (listed (tree_over (parts_of c.self.inside.nodes c.self.inside.names c.self.inside.limits))) c.names-names.result) c.new-entries.ensures.items
-    ∙ ap (map (listed (tree_over (parts_of c.self.inside.nodes c.self.inside.names c.self.inside.limits)))) (c.names-names.ensures ∙ ap maps.entries (sym (names_over (parts_of c.self.inside.nodes c.self.inside.names c.self.inside.limits) c.args.directory directory))))
+    (ap (λ es. map entry_of es ++ map (listed (tree_over (overlay_parts c.self.inside.nodes c.self.inside.names c.self.inside.limits))) c.names-names.result) c.new-entries.ensures.items
+    ∙ ap (map (listed (tree_over (overlay_parts c.self.inside.nodes c.self.inside.names c.self.inside.limits)))) (c.names-names.ensures ∙ ap maps.entries (sym (names_over (overlay_parts c.self.inside.nodes c.self.inside.names c.self.inside.limits) c.args.directory directory))))
 
 -- the names are those of a sound node
 pub returns-clause-named : goal.returns-clause-named

@@ -9,7 +9,7 @@ use Rattle.wasi_tree_index.proofs.NamesLemmas.{get-names_at}
 use Rattle.wasi_tree_index.specs.DirEntryKeys.{Key}
 use Rattle.wasi_tree.proofs.MoveLemmas.{names_apart}
 use Rattle.wasi_tree.specs.Move.{IsMove}
-use Rattle.wasi_overlay.specs.OverStore.{Overlaid, Parts, nodes_lost, parts_of, tree_over, worked_lost}
+use Rattle.wasi_overlay.specs.OverStore.{Overlaid, OverlayParts, nodes_lost, overlay_parts, tree_over, worked_lost}
 use Rattle.wasi_overlay.proofs.OverSteps.{IsStep, length-lost, moves, over_after, shown_as, stays_after}
 use Rattle.wasi_overlay.proofs.TreeOver.{names_over, over_next}
 use Rattle.wasi_overlay.proofs.over_store.OverStoreNodeStore.move_name.Goals as goal
@@ -17,7 +17,7 @@ use Rattle.wasi_tree.specs.ParentOf.{without_parent}
 use Rattle.wasi_overlay.proofs.over_store.OverStoreNodeStore.move_name.Goals.{After-hold_both, After-work-2}
 
 may : (c : After-hold_both)
-    → IsMove (tree_over (parts_of c.self.inside.nodes c.self.inside.names c.self.inside.limits)) c.args.old (name_bytes c.args.old_name) c.args.new (name_bytes c.args.new_name) c.args.node c.args.there
+    → IsMove (tree_over (overlay_parts c.self.inside.nodes c.self.inside.names c.self.inside.limits)) c.args.old (name_bytes c.args.old_name) c.args.new (name_bytes c.args.new_name) c.args.node c.args.there
 may c = subst (λ (o : Overlaid). IsMove o.tree c.args.old (name_bytes c.args.old_name) c.args.new (name_bytes c.args.new_name)
     c.args.node c.args.there) (sym c.self.view_is) c.requires.may
 
@@ -26,7 +26,7 @@ rename-requires-clause-held c =
     let is = may (goal.at.rename-requires-clause-held c).After-hold_both in
     ap (λ text. maps.get c.self.inside.names (c.args.old, text)) c.as_str.ensures.text
     ∙ sym (get-names_at c.self.inside.names c.args.old (name_bytes c.args.old_name))
-    ∙ ap (λ (names : Names). maps.get names (name_bytes c.args.old_name)) (sym (names_over (parts_of c.self.inside.nodes c.self.inside.names c.self.inside.limits) c.args.old is.from)) ∙ is.named
+    ∙ ap (λ (names : Names). maps.get names (name_bytes c.args.old_name)) (sym (names_over (overlay_parts c.self.inside.nodes c.self.inside.names c.self.inside.limits) c.args.old is.from)) ∙ is.named
 
 pub rename-requires-clause-apart : goal.rename-requires-clause-apart
 rename-requires-clause-apart c = λ same.
@@ -36,12 +36,12 @@ rename-requires-clause-apart c = λ same.
 pub work-requires-clause-within : goal.work-requires-clause-within
 work-requires-clause-within c =
     let to = (may (goal.at.work-requires-clause-within c).After-hold_both).to in
-    omega (arith, directory_within _ _ to, over_next (parts_of c.self.inside.nodes c.self.inside.names c.self.inside.limits))
+    omega (arith, directory_within _ _ to, over_next (overlay_parts c.self.inside.nodes c.self.inside.names c.self.inside.limits))
 
 pub lose_found-requires-clause-within : goal.lose_found-requires-clause-within
 lose_found-requires-clause-within c = λ m there.
     let lost = (may (goal.at.lose_found-requires-clause-within c).After-hold_both).lost m there in
-    rw c.work.ensures.nodes (omega (arith, lost.0, over_next (parts_of c.self.inside.nodes c.self.inside.names c.self.inside.limits)))
+    rw c.work.ensures.nodes (omega (arith, lost.0, over_next (overlay_parts c.self.inside.nodes c.self.inside.names c.self.inside.limits)))
 
 pub work-requires-2-clause-within : goal.work-requires-2-clause-within
 work-requires-2-clause-within c =
@@ -49,17 +49,17 @@ work-requires-2-clause-within c =
     rw (c.lose_found.ensures.nodes, c.work.ensures.nodes) (omega (
       arith,
       directory_within _ _ from,
-      over_next (parts_of c.self.inside.nodes c.self.inside.names c.self.inside.limits),
+      over_next (overlay_parts c.self.inside.nodes c.self.inside.names c.self.inside.limits),
       length-lost c.self.inside.nodes.nodes c.args.there,
     ))
 
 step : (c : After-work-2)
-    → IsStep (parts_of c.self.inside.nodes c.self.inside.names c.self.inside.limits) (parts_of c.work-2.new.self c.rename.new.self c.self.inside.limits)
-    (name_moved_onto (tree_over (parts_of c.self.inside.nodes c.self.inside.names c.self.inside.limits)) c.args.old (name_bytes c.args.old_name) c.args.new (name_bytes c.args.new_name) c.args.node c.args.there)
+    → IsStep (overlay_parts c.self.inside.nodes c.self.inside.names c.self.inside.limits) (overlay_parts c.work-2.new.self c.rename.new.self c.self.inside.limits)
+    (name_moved_onto (tree_over (overlay_parts c.self.inside.nodes c.self.inside.names c.self.inside.limits)) c.args.old (name_bytes c.args.old_name) c.args.new (name_bytes c.args.new_name) c.args.node c.args.there)
     (slice_set (without_parent c.self.inside.parents.parents c.args.there) c.args.node (Some c.args.new))
 step c = moves (subst (λ (o : Overlaid). IsMove o.tree c.args.old (name_bytes c.args.old_name) c.args.new (name_bytes c.args.new_name)
     c.args.node c.args.there) (sym c.self.view_is) c.requires.may)
-    (λ i. let parts : Parts = record {
+    (λ i. let parts : OverlayParts = record {
       nodes = (c.work-2.ensures.nodes ∙ c.lose_found.ensures.nodes
           ∙ ap (λ nodes. nodes_lost nodes c.args.there) c.work.ensures.nodes) i;
       names = (c.in_ok-rename.ensures.renamed ∙ (λ j. maps.remove (maps.insert c.self.inside.names

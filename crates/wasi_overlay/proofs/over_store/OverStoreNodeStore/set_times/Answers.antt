@@ -1,17 +1,17 @@
 use Rattle.wasi_host.specs.Step.{times_set}
-use Rattle.wasi_overlay.specs.OverStore.{Parts, parts_of, tree_over}
+use Rattle.wasi_overlay.specs.OverStore.{OverlayParts, overlay_parts, tree_over}
 use Rattle.wasi_overlay.proofs.OverSteps.{IsStep, over_after, shown_as, stays_after, times}
 use Rattle.wasi_overlay.proofs.TreeOver.{within_over}
 use Rattle.wasi_overlay.proofs.over_store.OverStoreNodeStore.set_times.Goals as goal
 
 pub set_times-requires-clause-within : goal.set_times-requires-clause-within
-set_times-requires-clause-within c = within_over (parts_of c.self.inside.nodes c.self.inside.names c.self.inside.limits) c.self.view_is c.requires.within
+set_times-requires-clause-within c = within_over (overlay_parts c.self.inside.nodes c.self.inside.names c.self.inside.limits) c.self.view_is c.requires.within
 
 step : (c : goal.After-set_times)
-    → IsStep (parts_of c.self.inside.nodes c.self.inside.names c.self.inside.limits) (parts_of c.set_times.new.self c.self.inside.names c.self.inside.limits)
-    (times_set (tree_over (parts_of c.self.inside.nodes c.self.inside.names c.self.inside.limits)) c.args.node c.args.atime c.args.mtime) c.self.inside.parents.parents
-step c = times c.args.atime c.args.mtime (within_over (parts_of c.self.inside.nodes c.self.inside.names c.self.inside.limits) c.self.view_is c.requires.within)
-    (λ i. let parts : Parts = record {
+    → IsStep (overlay_parts c.self.inside.nodes c.self.inside.names c.self.inside.limits) (overlay_parts c.set_times.new.self c.self.inside.names c.self.inside.limits)
+    (times_set (tree_over (overlay_parts c.self.inside.nodes c.self.inside.names c.self.inside.limits)) c.args.node c.args.atime c.args.mtime) c.self.inside.parents.parents
+step c = times c.args.atime c.args.mtime (within_over (overlay_parts c.self.inside.nodes c.self.inside.names c.self.inside.limits) c.self.view_is c.requires.within)
+    (λ i. let parts : OverlayParts = record {
       nodes = c.set_times.ensures.nodes i;
       names = c.self.inside.names;
       limits = c.self.inside.limits;

@@ -3,6 +3,6 @@ use Rattle.wasi_p1_types.specs.RawFlags.{open_how}
 use Rattle.wasi_p1_types.proofs.NamedFlags.{how_is}
 use Rattle.wasi_p1_types.proofs.open_with.OpenWith.of.Goals as goal
 
-pub returns-clause-row : goal.returns-clause-row
+pub returns-clause-specified : goal.returns-clause-specified
 unfolding open_how
-returns-clause-row c = rw (how_is _ _ _) (search rules)
+returns-clause-specified c = rw (how_is _ _ _) (search rules)

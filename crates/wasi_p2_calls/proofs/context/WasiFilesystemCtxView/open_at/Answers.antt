@@ -15,13 +15,13 @@ returns-in_err-opened-clause-call g c =
     let given = c.in_err-opened.ensures in
     rw (error.1, error.2) (none_made (sym c.in_ok-dir.ensures.is) c.requires.owned c.in_ok-dir.ensures.has
     (record { keeps = c.in_ok-make_room.ensures.keeps; few = c.in_ok-make_room.ensures.few })
-    (opened_made _ given.cause given.live given.lineage)
-    (record { perms_are = tt; mode = tt; kind = tt; performs = record { permit = given.permit; does = given.told } }))
+    (opened_made _ given.cause given.live given.provenance)
+    (record { perms_are = tt; mode = tt; kind = tt; performs = record { permit = given.permit; does = given.modelled } }))
 
 pub returns-clause-call : goal.returns-clause-call
 returns-clause-call g c =
     let given = c.in_ok-opened.ensures in
     one_made c.in_ok-opened.opened (sym c.in_ok-dir.ensures.is) c.requires.owned c.in_ok-dir.ensures.has
     (record { keeps = c.in_ok-make_room.ensures.keeps; few = c.in_ok-make_room.ensures.few })
-    (opened_made _ given.cause given.live given.lineage)
-    (record { perms_are = given.perms; mode = given.mode; kind = given.kind; performs = record { permit = given.permit; does = given.told } }) c.put.ensures
+    (opened_made _ given.cause given.live given.provenance)
+    (record { perms_are = given.perms; mode = given.mode; kind = given.kind; performs = record { permit = given.permit; does = given.modelled } }) c.put.ensures

@@ -15,13 +15,13 @@ returns-in_err-entries-clause-call g c =
     let given = c.in_err-entries.ensures in
     rw (error.1, error.2) (none_made (sym c.in_ok-dir.ensures.is) c.requires.owned c.in_ok-dir.ensures.has
     (record { keeps = c.in_ok-make_room.ensures.keeps; few = c.in_ok-make_room.ensures.few })
-    (listed_made _ given.cause given.live given.lineage)
-    ((tt, record { permit = tt; does = λ told none. given.told told })))
+    (listed_made _ given.cause given.live given.provenance)
+    ((tt, record { permit = tt; does = λ modelled none. given.modelled modelled })))
 
 pub returns-clause-call : goal.returns-clause-call
 returns-clause-call g c =
     let given = c.in_ok-entries.ensures in
     one_made c.in_ok-entries.entries (sym c.in_ok-dir.ensures.is) c.requires.owned c.in_ok-dir.ensures.has
     (record { keeps = c.in_ok-make_room.ensures.keeps; few = c.in_ok-make_room.ensures.few })
-    (listed_made _ given.cause given.live given.lineage)
-    ((given.names, record { permit = tt; does = λ told none. given.told told })) c.put.ensures
+    (listed_made _ given.cause given.live given.provenance)
+    ((given.names, record { permit = tt; does = λ modelled none. given.modelled modelled })) c.put.ensures

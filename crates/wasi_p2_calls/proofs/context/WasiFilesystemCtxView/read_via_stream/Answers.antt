@@ -17,7 +17,7 @@ returns-in_err-stream-clause-call g c =
     rw (error.1, error.2) (none_made (sym c.in_ok-file.ensures.is) c.requires.owned c.in_ok-file.ensures.has
     (record { keeps = c.in_ok-make_room.ensures.keeps; few = c.in_ok-make_room.ensures.few })
     (doubled_made Input (λ s. s.file) (λ s. refl) _ given.cause given.live given.logged)
-    ((tt, given.told)))
+    ((tt, given.modelled)))
 
 pub returns-clause-call : goal.returns-clause-call
 returns-clause-call g c =
@@ -25,4 +25,4 @@ returns-clause-call g c =
     one_made c.in_ok-stream.stream (sym c.in_ok-file.ensures.is) c.requires.owned c.in_ok-file.ensures.has
     (record { keeps = c.in_ok-make_room.ensures.keeps; few = c.in_ok-make_room.ensures.few })
     (doubled_made Input (λ s. s.file) (λ s. refl) _ given.cause given.live given.logged)
-    (((given.position, given.state), given.told)) c.put.ensures
+    (((given.position, given.state), given.modelled)) c.put.ensures

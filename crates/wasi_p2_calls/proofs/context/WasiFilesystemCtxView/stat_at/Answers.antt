@@ -9,12 +9,12 @@ returns-in_err-stat-clause-call g c =
     let error = err_from_is_err_and c.from_residual-in_err-stat.result c.from_residual-in_err-stat.ensures.1 in
     let given = c.in_err-stat.ensures in
     rw (error.1, error.2) (asked (Err c.in_err-stat.field-0.0) (sym c.in_ok-dir.ensures.is) c.requires.owned given.cause
-    given.live (traced_from _ _ c.in_ok-dir.ensures.has given.lineage)
-    (tt, record { permit = tt; does = λ told none. rw c.from-flags.ensures at (given.told told) }))
+    given.live (traced_from _ _ c.in_ok-dir.ensures.has given.provenance)
+    (tt, record { permit = tt; does = λ modelled none. rw c.from-flags.ensures at (given.modelled modelled) }))
 
 pub returns-clause-call : goal.returns-clause-call
 returns-clause-call g c =
     let given = c.in_ok-stat.ensures in
     rw c.from.ensures (asked (Ok c.in_ok-stat.stat) (sym c.in_ok-dir.ensures.is) c.requires.owned given.cause given.live
-    (traced_from _ _ c.in_ok-dir.ensures.has given.lineage)
-    (given.of, record { permit = tt; does = λ told none. rw c.from-flags.ensures at (given.told told) }))
+    (traced_from _ _ c.in_ok-dir.ensures.has given.provenance)
+    (given.of, record { permit = tt; does = λ modelled none. rw c.from-flags.ensures at (given.modelled modelled) }))

@@ -4,18 +4,18 @@ use Rattle.wasi_sandbox.proofs.sandbox.Sandbox.call.Goals as goal
 pub returns : goal.returns
 returns g c =
     let tree = g.met.T.ScriptTree in
-    let seen : IsSeen g.T.ScriptTree.seen g.T.Host.told g.T.Host.world g.T.Host.live g.T.Host.lookups g.T.Host.faults = record {
+    let seen : IsSeen g.T.ScriptTree.seen g.T.Host.modelled g.T.Host.model g.T.Host.live g.T.Host.lookups g.T.Host.faults = record {
       tells = tree.is_told;
-      worlds = tree.same_world;
+      models = tree.same_model;
       lives = tree.same_live;
       looks = tree.same_lookups;
       quiet = tree.no_faults;
     } in
     let bounds = c.call-outcome.ensures.host_laws in
-    let did : Did _ c.call-outcome.new.context _ _ _ _ g.T.Host.told g.T.Host.world g.T.Host.live g.T.Host.lookups g.T.Host.faults = record {
+    let did : Did _ c.call-outcome.new.context _ _ _ _ g.T.Host.modelled g.T.Host.model g.T.Host.live g.T.Host.lookups g.T.Host.faults = record {
       cause = bounds.cause;
       handles = bounds.handles;
-      lineage = bounds.lineage;
+      provenance = bounds.provenance;
       logged = bounds.logged;
       unchanged = c.call-outcome.ensures.unchanged;
       turn = c.call-outcome.ensures.spec;

@@ -9,11 +9,11 @@ use Rattle.wasi_tree.proofs.mem_store.MemStoreNodeStore.make_node.Goals as goal
 
 pub invariant_of-self-2 : goal.invariant_of-self-2
 invariant_of-self-2 c =
-    let grown : IsGrown c.self.inside.store c.make_node.new.self c.args.directory (name_bytes c.args.name) (stored_node c.args.row) =
+    let grown : IsGrown c.self.inside.store c.make_node.new.self c.args.directory (name_bytes c.args.name) (stored_node c.args.inode) =
     record {
       may = subst (λ (s : Parented). MayName s.tree c.args.directory (name_bytes c.args.name)) (sym c.self.view_is)
           c.requires.may;
-      bare = no_names (stored_node c.args.row) c.requires.sound;
+      bare = no_names (stored_node c.args.inode) c.requires.sound;
       made = c.in_ok-node.ensures.made;
     } in
     kept_grown grown c.self.invariant (c.push.ensures.count ∙ ap (λ k. k + 1) c.reserve.ensures.count)

@@ -3,7 +3,7 @@ use Rattle.std.specs.FinMap.{get}
 use Rattle.wasi_paths.specs.Name.{name_bytes}
 use Rattle.wasi_host.specs.Tree.{node_at, names_of, next_of}
 use Rattle.wasi_tree_index.proofs.NamesLemmas.{get-names_at}
-use Rattle.wasi_tree.proofs.RowLemmas.{IsIn, names_here, sound_at}
+use Rattle.wasi_tree.proofs.InodeLemmas.{IsIn, names_here, sound_at}
 use Rattle.wasi_tree.proofs.StoreLemmas.{child_is, child_below}
 use Rattle.wasi_tree.proofs.store.InodeStore.child.Goals as goal
 use Rattle.wasi_tree.proofs.store.InodeStore.child.Goals.{After-find}
@@ -12,7 +12,7 @@ use Rattle.wasi_tree.proofs.store.InodeStore.child.Goals.{After-find}
 held : (c : After-find) → c.find.result
     ≡ get (names_of (node_at c.args.self.now c.args.directory).content) (name_bytes c.args.name)
 held c =
-    let is : IsIn c.self.inside.rows.items c.self.inside.names.names c.self.inside.limits c.self.inside.worked.nodes
+    let is : IsIn c.self.inside.inodes.items c.self.inside.names.names c.self.inside.limits c.self.inside.worked.nodes
     c.args.self.now c.args.directory =
     record { stands = c.self.view_is; directory = sym c.if-not-is_directory.ensures } in
     c.find.ensures ∙ sym (get-names_at c.self.inside.names.names c.args.directory c.as_str.result.now)

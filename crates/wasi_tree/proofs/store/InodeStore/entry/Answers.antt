@@ -3,7 +3,7 @@ use Rattle.std.specs.FinMap as maps
 use Rattle.wasi_host.specs.Tree.{Names}
 use Rattle.wasi_tree_index.proofs.NamesLemmas.{get-names_at}
 use Rattle.wasi_tree.proofs.NameLemmas.{get-no_names, no_names_of}
-use Rattle.wasi_tree.proofs.RowLemmas.{names_here}
+use Rattle.wasi_tree.proofs.InodeLemmas.{names_here}
 use Rattle.wasi_tree.proofs.store.InodeStore.entry.Goals as goal
 
 pub returns-then-not-is_directory : goal.returns-then-not-is_directory

@@ -7,7 +7,7 @@ use Rattle.wasi_host.specs.Tree.{Tree, Nodes, next_of}
 use Rattle.wasi_host.proofs.Changes.{directory_within}
 use Rattle.wasi_tree.specs.StoredTree.{stored_tree}
 use Rattle.wasi_tree.proofs.ExchangeLemmas.{exchanged, held_there, tree_exchanged, stored_exchanged, exchange_stays}
-use Rattle.wasi_tree.proofs.RowLemmas.{count_same}
+use Rattle.wasi_tree.proofs.InodeLemmas.{count_same}
 use Rattle.wasi_tree.proofs.store.InodeStore.exchange.Goals as goal
 use Rattle.wasi_tree.proofs.store.InodeStore.exchange.Goals.{After-as_str, After-mark-2}
 
@@ -31,7 +31,7 @@ marked c = c.mark-2.ensures.nodes ∙ ap (λ (ns : Nodes). insert ns c.args.old)
 
 -- the tree that the rows and names then stand for
 now : (c : After-mark-2) → maps.get c.self.inside.names.names (c.args.old, c.as_str.result.now) ≡ Some c.args.node
-    → stored_tree c.self.inside.rows.items c.rename.new.self.names c.self.inside.limits c.mark-2.new.self.nodes
+    → stored_tree c.self.inside.inodes.items c.rename.new.self.names c.self.inside.limits c.mark-2.new.self.nodes
     ≡ exchanged c.args.self.now c.args.old (name_bytes c.args.old_name) c.args.new (string_bytes c.args.new_name) c.args.node
 now c is = tree_exchanged (record { stands = c.self.view_is; is = c.requires }) (renamed c is) (marked c)
 

@@ -1,7 +1,7 @@
 use Rattle.std.proofs.Common.{◌∙◌, sym, ap}
 use Rattle.std.specs.Prelude.{nat_eq}
 use Rattle.std.specs.FinMap as maps
-use Rattle.wasi_tree.proofs.RowLemmas.{names_here}
+use Rattle.wasi_tree.proofs.InodeLemmas.{names_here}
 use Rattle.wasi_tree.proofs.store.InodeStore.is_bare.Goals as goal
 
 pub returns : goal.returns

@@ -1,10 +1,10 @@
 use Rattle.std.proofs.Common.{◌∙◌, refl, arith}
 use Rattle.wasi_host.specs.Tree.{is_gone}
-use Rattle.wasi_tree.proofs.RowLemmas.{row_within, said_at}
+use Rattle.wasi_tree.proofs.InodeLemmas.{inode_within, said_at}
 use Rattle.wasi_tree.proofs.store.InodeStore.is_gone.Goals as goal
 
 pub returns : goal.returns
 returns c = c.is_gone.ensures ∙ said_at _ _ is_gone (λ _ _ _. refl) c.self.view_is c.requires c.index.ensures
 
 pub index-requires : goal.index-requires
-index-requires c = omega (arith, row_within _ _ c.self.view_is c.requires)
+index-requires c = omega (arith, inode_within _ _ c.self.view_is c.requires)

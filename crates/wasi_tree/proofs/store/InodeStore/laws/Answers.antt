@@ -1,4 +1,4 @@
-use Rattle.wasi_tree.proofs.RowLemmas.{sound_at}
+use Rattle.wasi_tree.proofs.InodeLemmas.{sound_at}
 use Rattle.wasi_tree.proofs.store.InodeStore.laws.Goals as goal
 
 pub returns : goal.returns

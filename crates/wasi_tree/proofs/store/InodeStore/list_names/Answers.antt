@@ -6,7 +6,7 @@ use Rattle.wasi_host.specs.Tree.{Tree, node_at, names_of, next_of}
 use Rattle.wasi_tree.proofs.ListLemmas.{listed_good}
 use Rattle.std.specs.FinMap as maps
 use Rattle.wasi_host.specs.Answer.{Listed, entry_of, listed}
-use Rattle.wasi_tree.proofs.RowLemmas.{names_here, sound_at}
+use Rattle.wasi_tree.proofs.InodeLemmas.{names_here, sound_at}
 use Rattle.wasi_tree.proofs.store.InodeStore.list_names.Goals as goal
 
 pub loop-name-init : goal.loop-name-init

@@ -7,7 +7,7 @@ use Rattle.wasi_host.specs.Step.{node_made, with_nodes}
 use Rattle.wasi_host.proofs.Changes.{directory_within}
 use Rattle.wasi_tree.specs.StoredTree.{stored_node, stored_tree}
 use Rattle.wasi_tree.proofs.SoundLemmas.{stays_made}
-use Rattle.wasi_tree.proofs.RowLemmas.{tree_grown, stored_grown}
+use Rattle.wasi_tree.proofs.InodeLemmas.{tree_grown, stored_grown}
 use Rattle.wasi_tree.proofs.store.InodeStore.make_node.Goals as goal
 use Rattle.wasi_tree.proofs.store.InodeStore.make_node.Goals.{After-push}
 
@@ -22,8 +22,8 @@ put : (c : After-push) → c.insert.new.self.names
 put c = c.insert.ensures.names
     ∙ (λ i. maps.insert (c.reserve.ensures.names i) (c.args.directory, (c.in_ok-text.ensures.ok ∙ c.as_str.ensures.text) i) (c.count-node.ensures i))
 
-pushed : (c : After-push) → c.push_reserved.new.self.items ≡ c.self.inside.rows.items ++ c.args.row ∷ []
-pushed c = c.push_reserved.ensures.items ∙ ap (λ rows. rows ++ c.args.row ∷ []) c.reserve-2.ensures.items
+pushed : (c : After-push) → c.push_reserved.new.self.items ≡ c.self.inside.inodes.items ++ c.args.inode ∷ []
+pushed c = c.push_reserved.ensures.items ∙ ap (λ inodes. inodes ++ c.args.inode ∷ []) c.reserve-2.ensures.items
 
 marked : (c : After-push)
     → c.push.new.self.nodes ≡ with_nodes c.args.self.now.worked (c.args.directory ∷ next_of c.args.self.now ∷ [])
@@ -34,8 +34,8 @@ marked c =
 
 made : (c : After-push)
     → stored_tree c.push_reserved.new.self.items c.insert.new.self.names c.self.inside.limits c.push.new.self.nodes
-    ≡ node_made c.args.self.now c.args.directory (name_bytes c.args.name) (stored_node c.args.row)
-made c = tree_grown (record { stands = c.self.view_is; directory = c.requires.directory }) (name_bytes c.args.name) c.args.row
+    ≡ node_made c.args.self.now c.args.directory (name_bytes c.args.name) (stored_node c.args.inode)
+made c = tree_grown (record { stands = c.self.view_is; directory = c.requires.directory }) (name_bytes c.args.name) c.args.inode
     (c.self.invariant.below.none _ (omega arith)) (pushed c) (put c) (marked c)
 
 pub mark-requires : goal.mark-requires
@@ -48,7 +48,7 @@ mark-requires c = omega (
 pub invariant_of-self-2 : goal.invariant_of-self-2
 invariant_of-self-2 c =
     let at = (goal.at.invariant_of-self-2 c).After-push in
-    stored_grown (record { stands = c.self.view_is; directory = c.requires.directory }) (name_bytes c.args.name) c.args.row c.requires.named c.requires.sound
+    stored_grown (record { stands = c.self.view_is; directory = c.requires.directory }) (name_bytes c.args.name) c.args.inode c.requires.named c.requires.sound
     (pushed at) (put at) (marked at) (omega arith) c.self.invariant
 
 pub returns-clause-made : goal.returns-clause-made
@@ -57,4 +57,4 @@ returns-clause-made c = made (goal.at.returns-clause-made c).After-push
 pub returns-clause-stays : goal.returns-clause-stays
 returns-clause-stays c =
     rw (made (goal.at.returns-clause-stays c).After-push)
-    (stays_made c.args.self.now c.args.directory (name_bytes c.args.name) (stored_node c.args.row) c.requires.directory)
+    (stays_made c.args.self.now c.args.directory (name_bytes c.args.name) (stored_node c.args.inode) c.requires.directory)

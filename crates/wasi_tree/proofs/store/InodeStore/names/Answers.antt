@@ -1,7 +1,7 @@
 use Rattle.std.proofs.Common.{◌∙◌, sym, ap}
 use Rattle.std.specs.FinMap as maps
 use Rattle.wasi_tree.proofs.NameLemmas.{no_entries, no_names_of}
-use Rattle.wasi_tree.proofs.RowLemmas.{names_here}
+use Rattle.wasi_tree.proofs.InodeLemmas.{names_here}
 use Rattle.wasi_tree.proofs.store.InodeStore.names.Goals as goal
 
 pub returns-then-not-is_directory : goal.returns-then-not-is_directory

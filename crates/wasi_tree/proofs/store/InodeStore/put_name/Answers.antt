@@ -6,7 +6,7 @@ use Rattle.wasi_host.specs.Tree.{Tree, node_at, next_of}
 use Rattle.wasi_host.specs.Step.{with_entry, content_changed}
 use Rattle.wasi_host.proofs.Changes.{directory_within, node_at-other}
 use Rattle.wasi_tree.specs.StoredTree.{stored_tree}
-use Rattle.wasi_tree.proofs.RowLemmas.{tree_named, stored_named, count_same}
+use Rattle.wasi_tree.proofs.InodeLemmas.{tree_named, stored_named, count_same}
 use Rattle.wasi_tree.proofs.SoundLemmas.{stays_changed, no_file}
 use Rattle.wasi_tree.proofs.store.InodeStore.put_name.Goals as goal
 use Rattle.wasi_tree.proofs.store.InodeStore.put_name.Goals.{After-mark}
@@ -25,7 +25,7 @@ put c = c.insert.ensures.names
     ∙ (λ i. maps.insert (c.reserve.ensures.names i) (c.args.directory, (c.in_ok-text.ensures.ok ∙ c.as_str.ensures.text) i) c.args.node)
 
 -- the tree with them
-now : (c : After-mark) → stored_tree c.self.inside.rows.items c.insert.new.self.names c.self.inside.limits c.mark.new.self.nodes
+now : (c : After-mark) → stored_tree c.self.inside.inodes.items c.insert.new.self.names c.self.inside.limits c.mark.new.self.nodes
     ≡ content_changed c.args.self.now c.args.directory (with_entry (name_bytes c.args.name) c.args.node)
 now c = tree_named (record { stands = c.self.view_is; directory = c.requires.directory }) (name_bytes c.args.name) c.args.node (put c) c.mark.ensures.nodes
 

@@ -5,7 +5,7 @@ use Rattle.wasi_host.specs.Tree.{Tree, node_at, next_of}
 use Rattle.wasi_host.specs.Step.{without_entry, content_changed}
 use Rattle.wasi_host.proofs.Changes.{directory_within}
 use Rattle.wasi_tree.specs.StoredTree.{stored_tree}
-use Rattle.wasi_tree.proofs.RowLemmas.{tree_unnamed, stored_unnamed, count_same}
+use Rattle.wasi_tree.proofs.InodeLemmas.{tree_unnamed, stored_unnamed, count_same}
 use Rattle.wasi_tree.proofs.SoundLemmas.{stays_changed, no_file}
 use Rattle.wasi_tree.proofs.store.InodeStore.take_name.Goals as goal
 use Rattle.wasi_tree.proofs.store.InodeStore.take_name.Goals.{After-mark}
@@ -24,7 +24,7 @@ taken c = c.remove.ensures.names
     ∙ ap (λ text. maps.remove c.self.inside.names.names (c.args.directory, text)) c.as_str.ensures.text
 
 -- the tree with these
-now : (c : After-mark) → stored_tree c.self.inside.rows.items c.remove.new.self.names c.self.inside.limits c.mark.new.self.nodes
+now : (c : After-mark) → stored_tree c.self.inside.inodes.items c.remove.new.self.names c.self.inside.limits c.mark.new.self.nodes
     ≡ content_changed c.args.self.now c.args.directory (without_entry (name_bytes c.args.name))
 now c = tree_unnamed (record { stands = c.self.view_is; directory = c.requires }) (name_bytes c.args.name) (taken c) c.mark.ensures.nodes
 
