@@ -4,7 +4,7 @@ ghost use Rattle.std.specs.FinSet.{contains};
 ghost use Rattle.wasi_fs.specs.Calls.{handle_of};
 
 use std::alloc::Global;
-use test_support::{Asked, Rendered, done, refused, time_of, rendered, word};
+use test_support::{Asked, Rendered, done, refused, rendered, time_of, word};
 use wasi_fs::{
     Descriptor, DescriptorFlags, Dir, File, Flags, FsPerms, OpenFlags, OpenMode, PathFlags,
 };
@@ -79,7 +79,12 @@ fn mode_of(descriptor: &Descriptor) -> OpenMode {
 }
 
 /// Its mode, what is said of it, its kind, its hash, and whether it is the node of `root`.
-fn rendered_opened<H: Host>(alloc: Global, host: &mut H, root: &Descriptor, opened: &Descriptor) -> Rendered
+fn rendered_opened<H: Host>(
+    alloc: Global,
+    host: &mut H,
+    root: &Descriptor,
+    opened: &Descriptor,
+) -> Rendered
     requires root { contains (H.live host.old) (handle_of root.now) ≡ true }
     requires opened { contains (H.live host.old) (handle_of opened.now) ≡ true }
 {

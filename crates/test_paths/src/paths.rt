@@ -4,7 +4,8 @@ ghost use Rattle.std.specs.FinSet.{contains};
 
 use std::alloc::Global;
 use test_support::{
-    Asked, Rendered, answered, done, refused, time_of, rendered, rendered_node, rendered_times, unknown, word,
+    Asked, Rendered, answered, done, refused, rendered, rendered_node, rendered_times, time_of,
+    unknown, word,
 };
 use wasi_host::{FollowSymlinks, Handle, Host, HostError, OpenOptions};
 use wasi_resolve::{

@@ -24,7 +24,12 @@ pub trait Calls<H: Host>: Drop {
 }
 
 /// `CALL; CALL ..`: the answers of the calls, after which the stream is closed.
-pub fn along<H: Host, S: Calls<H>>(host: &mut H, mut stream: S, alloc: Global, calls: &str) -> Rendered
+pub fn along<H: Host, S: Calls<H>>(
+    host: &mut H,
+    mut stream: S,
+    alloc: Global,
+    calls: &str,
+) -> Rendered
     requires { contains (H.live host.old) (S.handle stream) ≡ true }
     ensures { OnOk result (H.live host.new ≡ remove (H.live host.old) (S.handle stream)) }
 {

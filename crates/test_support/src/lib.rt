@@ -11,7 +11,7 @@ mod line;
 mod table;
 mod tally;
 
-pub use hosts::{answered, coded, done, refused, time_of, rendered_node, rendered_times};
+pub use hosts::{answered, coded, done, refused, rendered_node, rendered_times, time_of};
 pub use input::input_text;
 pub use line::{Asked, Rendered, list_of, number, rendered, unknown, word};
 pub use table::{Answering, try_table};

@@ -5,8 +5,8 @@ ghost use Rattle.wasi_tree.specs.MemState.{live_of};
 
 use std::alloc::Global;
 use test_support::{
-    Asked, Rendered, answered, coded, done, number, refused, time_of, rendered, rendered_node, rendered_times,
-    unknown, word,
+    Asked, Rendered, answered, coded, done, number, refused, rendered, rendered_node,
+    rendered_times, time_of, unknown, word,
 };
 use wasi_host::{Advice, Handle, Host, HostError};
 use wasi_paths::Name;

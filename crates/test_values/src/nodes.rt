@@ -1,6 +1,6 @@
 //! What is said of nodes.
 use std::alloc::{AllocError, Global};
-use test_support::{number, time_of, rendered, unknown, word};
+use test_support::{number, rendered, time_of, unknown, word};
 use wasi_fs::{Descriptor, DescriptorStat, Dir, File, Flags, FsPerms, MetadataHashValue, OpenMode};
 use wasi_host::{FileType, Handle, Metadata, SystemTime};
 

@@ -34,7 +34,7 @@ pub node_known : (t : Tree) (n : ℕ) {metadata : Metadata} → stat_answer t n 
 unfolding metadata_of
 node_known t n answer = sym (ap (λ m. m.node) (given t n answer))
 
--- no row refuses them
+-- no rule refuses them
 pub stat_given : (t : Tree) (n : ℕ) {code : ErrorCode} → stat_answer t n ≡ Err code → ⊥
 unfolding refusal
 stat_given t n refused = (cc)

@@ -273,7 +273,7 @@ module _ {live : Handles} {w v : HostModel} {s : ℕ} {text : List ℕ} {how : O
 
 -- ---- the new handle's metadata
 
--- h is the new handle, u the world after the open
+-- h is the new handle, u the model after the open
 module _ (text : List ℕ) (how : OpenHow) {old mid new : Handles} {w u : HostModel} {s h : ℕ}
     (fresh : (contains old h ≡ false) × (mid ≡ insert old h))
     (did : Resolved {A = ℕ} old w u (opens_at w.tree s text (options_of how)) u.held (Ok h)) (same : new ≡ mid) where

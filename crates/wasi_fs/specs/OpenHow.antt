@@ -67,7 +67,7 @@ open_rules how perms =
     ∷ (is_unpermitted how perms, codes.NotPermitted)
     ∷ []
 
--- the code of the first of these rows that holds
+-- the code of the first of these rules that holds
 unfoldable pub may_open : OpenHow → FsPerms → Option ErrorCode
 may_open how perms = first_rule (open_rules how perms)
 

@@ -101,7 +101,7 @@ fn run_source<S: Source, K: Sink>(alloc: Global, source: &mut S, sink: &mut K) -
 ///
 /// What is written is due by the words and the bytes that the source has left: the usage line; the line that names the
 /// refusal, as `refused: overlap`; or the text of what the guests come to, each of them what it comes to alone. Of a source
-/// that doesn't tell its bytes it is what is due of some bytes. Faults come from the source and the sink alone.
+/// that isn't modelled it is what is due of some bytes. Faults come from the source and the sink alone.
 pub fn run_guest_script<S: Source, K: Sink>(
     alloc: Global,
     words: &Vec<String>,

@@ -1,4 +1,4 @@
--- Rows before others, and that a code of the table is a refusal.
+-- Rules before others, and that a code of the table is a refusal.
 use Rattle.std.proofs.Common.{◌≡◌, ◌⊎◌, inl, inr, Bool, true, false, List, [], ◌∷◌, ◌++◌, Option, Some, None, Ok, Err, refl, sym, ap, ◌∙◌}
 use Rattle.wasi_host.specs.Tree.{Tree}
 use Rattle.wasi_host.specs.HostCall.{HostCall, OpenAt, StatAt, ReadLinkAt, MakeDirAt, SymlinkAt, LinkAt, RenameAt, UnlinkAt, RemoveDirAt, TimesAt, Access, Stat, SetTimes, Pread, Pwrite, Append, SetSize, Sync, Advise, Flags, ListDir, Dup, Close}
@@ -6,16 +6,16 @@ use Rattle.wasi_host.specs.Refusal.{refusal, first_rule}
 use Rattle.wasi_host.specs.Answer.{HostAnswer, unless, host_answer}
 use Rattle.wasi_host.specs.declared.errors.ErrorCode.{ErrorCode}
 
--- ---- rows before others
+-- ---- rules before others
 
--- where no row holds, none of either part does
+-- where no rule holds, none of either part does
 pub none_refuses : (rows others : List (Bool × ErrorCode)) → first_rule (rows ++ others) ≡ None
     → (first_rule rows ≡ None) × (first_rule others ≡ None)
 none_refuses [] others none = (refl, none)
 none_refuses ((true, code) ∷ rows) others none = absurd (cc)
 none_refuses ((false, code) ∷ rows) others none = none_refuses rows others none
 
--- a code is that of a row of one part
+-- a code is that of a rule of one part
 pub part_refuses : (rows others : List (Bool × ErrorCode)) {code : ErrorCode} → first_rule (rows ++ others) ≡ Some code
     → (first_rule rows ≡ Some code) ⊎ (first_rule others ≡ Some code)
 part_refuses [] others is = inr is

@@ -158,7 +158,7 @@ valid-times t n atime mtime valid =
     valid-written t n (with_times (node_at t n) atime mtime) (with_nodes t.worked (n ∷ []))
     (record { names = refl; file = refl; directory = refl; gone = refl }) valid (λ within. valid.nodes n within)
 
--- ---- what the rows leave
+-- ---- what the rules leave
 
 -- of a name that is to be looked up
 pub record CanLook (t : Tree) (d : ℕ) (name : List ℕ) : Type 0 where
@@ -210,7 +210,7 @@ can_make_file t d name o none missing = record {
   room = grind arith;
 }
 
--- with these rows before those of the name
+-- with these rules before those of the name
 making : (t : Tree) (d : ℕ) (name : List ℕ) (before : List (Bool × ErrorCode))
     → first_rule (directory_rule t d ++ (before ++ making_rules t d name)) ≡ None
     → (first_rule before ≡ None) × CanMake t d name

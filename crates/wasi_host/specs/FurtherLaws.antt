@@ -1,5 +1,5 @@
--- Further meanings that a host may tell: which of its calls fail by themselves, and what the next one finds where others
--- change the tree between calls.
+-- What else of a host may be modelled: which of its calls fail by themselves, and what the next one finds where
+-- others change the tree between calls.
 use Rattle.std.specs.Prelude.{◌≡◌, ◌⊎◌, ℕ, ◌+◌, Bool, true, false, Result, Ok, Err}
 use Rattle.wasi_host.specs.Answer.{HostAnswer, host_answer}
 use Rattle.wasi_host.specs.HostCall.{HostCall}
@@ -28,7 +28,7 @@ has_failed (Err Memory) = false
 has_failed (Err (Code Io)) = true
 has_failed (Err (Code code)) = false
 
--- one call of a host that tells what becomes of its calls: `Io` is answered exactly where it fails
+-- one call of a host of whose calls it is modelled what becomes of them: `Io` is answered exactly where it fails
 pub record FollowsPlan {A : Type 0} (old new : Fates) (result : Result A HostError) : Type 0 where
   pub failed : has_failed result ≡ is_failing (old 0)
   pub later : (n : ℕ) → new n ≡ old (n + 1)
@@ -45,13 +45,13 @@ Follow old new = (n : ℕ) (t : Tree) → new n t ≡ old (n + 1) t
 abbrev pub changed_to : Tree → HostModel → HostModel
 changed_to tree left = record left { tree = tree }
 
--- A call does to what it finds what a call of a told host does to its world; or it failed before it was made
+-- A call does to what it finds what a call of a modelled host does to its model; or it failed before it was made
 abbrev pub Finds : {A : Type 0} → Handles → Handles → HostModel → Tree → HostModel → (call : HostCall) → (A → HostAnswer call)
     → Result A HostError → Type 0
 Finds old new left found after call shown result =
     RefinesCall old new (changed_to found left) after call shown result ⊎ ((has_failed result ≡ true) × (after ≡ left))
 
--- what a call does whose row answers this: its one step, or none where it is refused
+-- what a call does whose rule answers this: its one step, or none where it is refused
 abbrev pub EffectOf : {A : Type 0} → Result A ErrorCode → HostCall → HostModel → HostModel → Type 0
 EffectOf (Ok a) call w v = Stepped w call v
 EffectOf (Err code) call w v = Looked w call v

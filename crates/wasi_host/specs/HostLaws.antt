@@ -1,4 +1,4 @@
--- What the calls of a host do to its meanings: the laws that every host keeps, and those of one that tells its world.
+-- What the calls of a host do to its meanings: the laws that every host keeps, and those of a modelled one.
 use Rattle.std.specs.Prelude.{◌≡◌, ◌⊎◌, ℕ, ◌+◌, ◌-◌, ◌^◌, ◌<◌, ◌≤◌, min, true, false, List, [], ◌∷◌, ◌++◌, Option, Some, None, Result, Ok, Err}
 use Rattle.std.specs.Ordering.{nat_cmp}
 use Rattle.std.specs.FinSet.{FinSet, contains, insert, empty}
@@ -19,13 +19,13 @@ use Rattle.wasi_host.specs.declared.errors.HostError.TheVariants.{Code, Memory}
 abbrev pub Handles : Type 0
 Handles = FinSet nat_cmp
 
--- what a told host tells: its tree, what each live handle stands for, and the touched nodes
+-- the model of a host: its tree, what each live handle stands for, and the touched nodes
 pub record HostModel : Type 0 where
   pub tree : Tree
   pub held : ℕ → OpenHandle
   pub touched : Nodes
 
--- the world with no node touched
+-- the model with no node touched
 abbrev pub forgotten : HostModel → HostModel
 forgotten w = record w { touched = empty }
 
@@ -154,7 +154,7 @@ pub record IsHeld (t : Tree) (held : OpenHandle) : Type 0 where
 pub record AllHeld (live : Handles) (w : HostModel) : Type 0 where
   pub each : (h : ℕ) → contains live h ≡ true → IsHeld w.tree (w.held h)
 
--- what a call of a told host does: it answers by the table, and makes its one step where it answers Ok
+-- what a call of a modelled host does: it answers by the table, and makes its one step where it answers Ok
 pub record RefinesCall {A : Type 0} (old new : Handles) (w v : HostModel) (call : HostCall) (shown : A → HostAnswer call)
     (result : Result A HostError) : Type 0 where
   pub meaning : Means shown (host_answer w.tree call) result

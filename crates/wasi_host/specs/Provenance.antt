@@ -17,7 +17,7 @@ abbrev pub LookupsHaveProvenance : (ℕ → Type 0) → List Lookup → Type 0
 LookupsHaveProvenance Known [] = Unit {0}
 LookupsHaveProvenance Known (entry ∷ rest) = Known entry.from × LookupsHaveProvenance (OrGot Known entry.got) rest
 
--- The look-ups have grown by a piece whose lineage are the given handles; and who keeps a handle afterwards kept it
+-- The look-ups have grown by a piece whose provenance are the given handles; and who keeps a handle afterwards kept it
 -- before, or a look-up of the piece got it
 pub record HasProvenance (Given Kept Kept' : ℕ → Type 0) (old new : List Lookup) : Type 0 where
   pub piece : List Lookup

@@ -24,19 +24,20 @@ use wasi_paths::Name;
 /// A tree of files behind handles, which is all that the crates above ever see of one.
 ///
 /// Each method has laws that hold for every host (`cause`, `live`, `logged` and what is said of the answer alone) and,
-/// where the host tells its world, the law `modelled`: every code but `Io` comes exactly by the first row of the host's table
-/// that holds, Ok has exactly the row's answer and makes the row's one step, a refused call leaves the tree, and the call
-/// touches the nodes that it comes to and no others. `Io` comes only where the count of faults rose, and may hide a step.
+/// where the host is modelled, the law `modelled`: every code but `Io` comes exactly by the first rule of the host's
+/// table that holds, Ok has exactly the rule's answer and makes the rule's one step, a refused call leaves the tree,
+/// and the call touches the nodes that it comes to and no others. `Io` comes only where the count of faults rose, and
+/// may hide a step.
 ///
 /// The condition of every method is that its handles are live.
 ///
 /// Each method that takes a name refuses NotDirectory before all else where its handle is no directory's, of two the
-/// old one first; no caller in this workspace asks so. The rows for a name, first in each of these methods but where it
-/// says so: Invalid of a NUL in the name, NameTooLong of more than 255 bytes, Access where the directory may not be
-/// searched. The rows and their order are this project's own, in the manner of Linux, and claim nothing of a kernel.
+/// old one first; no caller in this workspace asks so. The rules for a name, first in each of these methods but where
+/// it says so: Invalid of a NUL in the name, NameTooLong of more than 255 bytes, Access where the directory may not be
+/// searched. The rules and their order are this project's own, in the manner of Linux, and claim nothing of a kernel.
 pub trait Host {
-    /// How often the host has failed by itself, which never falls and stands still at 2^64 - 1, and how often it fails at
-    /// most, which no call changes.
+    /// How often the host has failed by itself, which never falls and stands still at 2^64 - 1, and how often it fails
+    /// at most, which no call changes.
     ghost faults: { Self → FaultCount };
 
     /// The live handles.
@@ -47,39 +48,41 @@ pub trait Host {
     /// handle the look-up may have that handle, which wasn't live before.
     ghost lookups: { Self → List Lookup };
 
-    /// Whether the host tells its world.
+    /// Whether the host is modelled: contracts know its tree.
     ghost modelled: { Bool };
 
-    /// The tree, what each live handle stands for, and the touched nodes. It says nothing where it isn't told.
+    /// The tree, what each live handle stands for, and the touched nodes. It says nothing where the host isn't
+    /// modelled.
     ghost model: { Self → HostModel };
 
-    /// Whether the host tells which of its calls fail by themselves.
+    /// Whether the model says which of the host's calls fail by themselves.
     ghost fails_modelled: { Bool };
 
-    /// What becomes of the calls to come but `dup` and `close`, of the next one at 0. Where it is told, a call answers `Io`
-    /// exactly where it fails. Where the host tells what its calls find too, one that isn't made leaves all as it was, and
-    /// of one that is made and its answer lost, that very call is made: it does what its row says, unless it takes memory
-    /// and memory was wanted.
+    /// What becomes of the calls to come but `dup` and `close`, of the next one at 0. Where it is modelled, a call
+    /// answers `Io` exactly where it fails. Where what calls find is modelled too, one that isn't made leaves all as it
+    /// was, and of one that is made and its answer lost, that very call is made: it does what its rule says, unless it
+    /// takes memory and memory was wanted.
     ghost fails: { Self → Fates };
 
-    /// Whether the host tells what its calls find and leave, be it that others change its tree between them.
+    /// Whether the model says what the host's calls find and leave, be it that others change its tree between them.
     ghost found_modelled: { Bool };
 
     /// What others do to the tree before the calls to come but `dup` and `close`, before the next one at 0. Where it is
-    /// told, each such call goes on by one, whatever it answers, and `dup` and `close` by none.
+    /// modelled, each such call goes on by one, whatever it answers, and `dup` and `close` by none.
     ghost others: { Self → Others };
 
-    /// The tree that the next call but `dup` and `close` finds: what was left, once others have done what they do before it.
+    /// The tree that the next call but `dup` and `close` finds: what was left, once others have done what they do
+    /// before it.
     ghost found: { Self → Tree };
 
-    /// The tree as the last call left it, what each live handle stands for, and the touched nodes. Where it is told, a
-    /// call does to `found` and `left` what it does to the world of a host that tells its own, unless it fails before it
-    /// is made; `dup` and `close` find what is left, and leave `found`.
+    /// The tree as the last call left it, what each live handle stands for, and the touched nodes. Where it is modelled,
+    /// a call does to `found` and `left` what it does to the model of a modelled host, unless it fails before
+    /// it is made; `dup` and `close` find what is left, and leave `found`.
     ghost left: { Self → HostModel };
 
     /// Opens a name in a directory. A link is never followed. The handle has the read and write of the options, or is
     /// for the path alone. A missing name is made where the options ask to create, and a file is cut to no bytes where
-    /// they ask to truncate it. Refusals: the rows of `open_at` in the host's table.
+    /// they ask to truncate it. Refusals: the rules of `open_at` in the host's table.
     fn open_at(
         &mut self,
         start: Handle,
@@ -102,7 +105,7 @@ pub trait Host {
             (left self.new) (MayTakeEffect (OpenAt ((left self.old).held start).node (name_bytes name.entry) options.now)) };
 
     /// The metadata of the node under a name in a directory. A link is not followed: the metadata are its own.
-    /// Refusals: the rows for a name; NoEntry where it is missing.
+    /// Refusals: the rules for a name; NoEntry where it is missing.
     fn stat_at(&mut self, start: Handle, name: Name<'_>) -> Result<Metadata, HostError>
         requires { contains (live self.old) start ≡ true }
         ensures cause { HasCause (faults self.old) (faults self.new) result }
@@ -120,7 +123,7 @@ pub trait Host {
         ensures made { IsTrue fails_modelled → IsTrue found_modelled → Leaves (fails self.old 0) (left self.old) (found self.old)
             (left self.new) (MayTakeEffect (StatAt ((left self.old).held start).node (name_bytes name.entry))) };
 
-    /// The text of the link under a name in a directory, which has 1 to 4,095 bytes. Refusals: the rows for a name;
+    /// The text of the link under a name in a directory, which has 1 to 4,095 bytes. Refusals: the rules for a name;
     /// NoEntry where it is missing; Invalid where it is no link.
     fn read_link_at(
         &mut self,
@@ -146,7 +149,7 @@ pub trait Host {
             (left self.new) (MayTakeEffect (ReadLinkAt ((left self.old).held start).node (name_bytes name.entry))) };
 
     /// Makes an empty directory under a name in a directory. It may be read, written and searched, and has zero times.
-    /// Refusals: the rows for a name; Exist where the name is there, `.` among them; NoEntry where the directory is
+    /// Refusals: the rules for a name; Exist where the name is there, `.` among them; NoEntry where the directory is
     /// removed; Access where it may not be written; InsufficientSpace where the tree has as many nodes as it may.
     fn make_dir_at(&mut self, start: Handle, name: Name<'_>) -> Result<(), HostError>
         requires { contains (live self.old) start ≡ true }
@@ -165,7 +168,7 @@ pub trait Host {
             (left self.new) (MayTakeEffect (MakeDirAt ((left self.old).held start).node (name_bytes name.entry))) };
 
     /// Makes a link of this text under a name in a directory; nothing need be where the text leads. Refusals, before
-    /// the rows for a name: NoEntry where the text is empty, Invalid where it has a NUL, NameTooLong where it has more
+    /// the rules for a name: NoEntry where the text is empty, Invalid where it has a NUL, NameTooLong where it has more
     /// than 4,095 bytes; then those of `make_dir_at`.
     fn symlink_at(&mut self, target: &str, start: Handle, name: Name<'_>) -> Result<(), HostError>
         requires { contains (live self.old) start ≡ true }
@@ -184,8 +187,8 @@ pub trait Host {
             (left self.new) (MayTakeEffect (SymlinkAt target.now ((left self.old).held start).node (name_bytes name.entry))) };
 
     /// Gives the file or link under the old name in a directory a new name in another, which may be the same; a link is
-    /// not followed, as with POSIX's `linkat` without its flag. Refusals: the rows of `link_at` in the host's table, those
-    /// for the two names first, the old one before the new one.
+    /// not followed, as with POSIX's `linkat` without its flag. Refusals: the rules of `link_at` in the host's table,
+    /// those for the two names first, the old one before the new one.
     fn link_at(
         &mut self,
         old: Handle,
@@ -215,9 +218,9 @@ pub trait Host {
     /// Moves what the old name in a directory holds to the new name in another, which may be the same; a link is not
     /// followed. What the new name held loses it: a file or link has one name fewer, and stays with none too; a
     /// directory is removed. Where both names hold one node, both stay, as with POSIX's `rename`. `requires_dir` asks
-    /// for a directory, as a slash at the end of a path does. Refusals: the rows of `rename_at` in the host's table, those
-    /// for its names first, then those for what would come below itself or in the place of a directory above it. Where
-    /// both names hold one node there are no others; else those of a move follow.
+    /// for a directory, as a slash at the end of a path does. Refusals: the rules of `rename_at` in the host's table,
+    /// those for its names first, then those for what would come below itself or in the place of a directory above it.
+    /// Where both names hold one node there are no others; else those of a move follow.
     fn rename_at(
         &mut self,
         old: Handle,
@@ -245,7 +248,7 @@ pub trait Host {
             (left self.new) (MayTakeEffect (RenameAt ((left self.old).held old).node (name_bytes old_name.entry)
             ((left self.old).held new).node (name_bytes new_name.entry) requires_dir)) };
 
-    /// Drops a name of a file or link, which has one name fewer, and stays with none too. Refusals: the rows for a
+    /// Drops a name of a file or link, which has one name fewer, and stays with none too. Refusals: the rules for a
     /// name; IsDirectory of `.`; NoEntry where the name is missing; Access where the directory may not be written;
     /// IsDirectory where the name holds a directory.
     fn unlink_at(&mut self, start: Handle, name: Name<'_>) -> Result<(), HostError>
@@ -265,7 +268,7 @@ pub trait Host {
             (left self.new) (MayTakeEffect (UnlinkAt ((left self.old).held start).node (name_bytes name.entry))) };
 
     /// Drops the name of an empty directory, which is removed from then on: a handle may still stand for it, but it
-    /// takes no name. Refusals: the rows for a name; Invalid of `.`; NoEntry where the name is missing; Access where
+    /// takes no name. Refusals: the rules for a name; Invalid of `.`; NoEntry where the name is missing; Access where
     /// the directory that has the name may not be written; NotDirectory where it holds no directory; NotEmpty where
     /// that has names.
     fn remove_dir_at(&mut self, start: Handle, name: Name<'_>) -> Result<(), HostError>
@@ -286,7 +289,7 @@ pub trait Host {
 
     /// Sets the given times of the node under a name in a directory, that of its last read and that of its last change;
     /// one that isn't given stays, as with `UTIME_OMIT` of POSIX's `utimensat`. A link is not followed: the times are
-    /// its own. Refusals: the rows for a name; NoEntry where it is missing.
+    /// its own. Refusals: the rules for a name; NoEntry where it is missing.
     fn times_at(
         &mut self,
         start: Handle,
@@ -379,7 +382,8 @@ pub trait Host {
         ensures made { IsTrue fails_modelled → IsTrue found_modelled → Leaves (fails self.old 0) (left self.old) (found self.old)
             (left self.new) (TakesEffect (Stat ((left self.old).held handle).node)) };
 
-    /// Sets the given times of what a handle stands for, as `times_at` does. It takes no memory, and no row refuses it.
+    /// Sets the given times of what a handle stands for, as `times_at` does. It takes no memory, and no rule refuses
+    /// it.
     fn set_times(
         &mut self,
         handle: Handle,
@@ -401,8 +405,8 @@ pub trait Host {
         ensures made { IsTrue fails_modelled → IsTrue found_modelled → Leaves (fails self.old 0) (left self.old) (found self.old)
             (left self.new) (TakesEffect (SetTimes ((left self.old).held handle).node atime mtime)) };
 
-    /// Reads a file's bytes from an offset on into the front of `buf`, and answers how many: where the host tells its
-    /// world as many as there are and `buf` takes, 0 at or past the end. The rest of `buf` stays. It takes no memory.
+    /// Reads a file's bytes from an offset on into the front of `buf`, and answers how many: where the host is
+    /// modelled as many as there are and `buf` takes, 0 at or past the end. The rest of `buf` stays. It takes no memory.
     /// Refusals: BadDescriptor without read access or where it is no file; Invalid for an offset of 2^63 or more.
     fn pread(&mut self, file: Handle, buf: &mut [u8], offset: u64) -> Result<usize, ErrorCode>
         requires { contains (live self.old) file ≡ true }
@@ -425,7 +429,7 @@ pub trait Host {
             (left self.new) (TakesEffect (Pread ((left self.old).held file) offset (length buf.old))) };
 
     /// Puts a piece of bytes into a file from an offset on, with zeros in a gap before it, and answers how many it
-    /// took, which is all where the host tells its world. No bytes change nothing. A call that takes nothing of a piece
+    /// took, which is all where the host is modelled. No bytes change nothing. A call that takes nothing of a piece
     /// that isn't empty has failed, and the count of faults rose. Refusals: BadDescriptor without write access; Invalid
     /// for an offset of 2^63 or more; FileTooLarge where the file would have more than 2^30 bytes.
     fn pwrite(&mut self, file: Handle, piece: &[u8], offset: u64) -> Result<usize, HostError>
@@ -447,8 +451,8 @@ pub trait Host {
         ensures made { IsTrue fails_modelled → IsTrue found_modelled → Leaves (fails self.old 0) (left self.old) (found self.old)
             (left self.new) (MayTakeEffect (Pwrite ((left self.old).held file) offset piece.now)) };
 
-    /// Puts a piece of bytes behind a file's last one, and answers how many it took, which is all where the host tells
-    /// its world. No bytes change nothing. A call that takes nothing of a piece that isn't empty has failed, and the
+    /// Puts a piece of bytes behind a file's last one, and answers how many it took, which is all where the host is
+    /// modelled. No bytes change nothing. A call that takes nothing of a piece that isn't empty has failed, and the
     /// count of faults rose. Refusals: BadDescriptor without write access; FileTooLarge where the file would have more
     /// than 2^30 bytes.
     fn append(&mut self, file: Handle, piece: &[u8]) -> Result<usize, HostError>
@@ -487,7 +491,7 @@ pub trait Host {
         ensures made { IsTrue fails_modelled → IsTrue found_modelled → Leaves (fails self.old 0) (left self.old) (found self.old)
             (left self.new) (MayTakeEffect (SetSize ((left self.old).held file) size)) };
 
-    /// Waits until what a handle stands for is stored, as POSIX's `fsync` does. It takes no memory, and no row refuses
+    /// Waits until what a handle stands for is stored, as POSIX's `fsync` does. It takes no memory, and no rule refuses
     /// it.
     fn sync(&mut self, handle: Handle) -> Result<(), ErrorCode>
         requires { contains (live self.old) handle ≡ true }
@@ -505,8 +509,8 @@ pub trait Host {
         ensures made { IsTrue fails_modelled → IsTrue found_modelled → Leaves (fails self.old 0) (left self.old) (found self.old)
             (left self.new) (TakesEffect (Sync ((left self.old).held handle).node)) };
 
-    /// Tells how the bytes from an offset on will be used, as POSIX's `posix_fadvise` does. Nothing changes. It takes no
-    /// memory, and no row refuses it.
+    /// Tells how the bytes from an offset on will be used, as POSIX's `posix_fadvise` does. Nothing changes. It takes
+    /// no memory, and no rule refuses it.
     fn advise(
         &mut self,
         file: Handle,
@@ -529,7 +533,7 @@ pub trait Host {
         ensures made { IsTrue fails_modelled → IsTrue found_modelled → Leaves (fails self.old 0) (left self.old) (found self.old)
             (left self.new) (TakesEffect (Advise ((left self.old).held file).node offset len advice)) };
 
-    /// The synchronized modes of a handle: none, where the host tells its world. It takes no memory, and no row refuses
+    /// The synchronized modes of a handle: none, where the host is modelled. It takes no memory, and no rule refuses
     /// it.
     fn flags(&mut self, handle: Handle) -> Result<SyncFlags, ErrorCode>
         requires { contains (live self.old) handle ≡ true }
@@ -561,11 +565,11 @@ pub trait Host {
         ensures left { IsTrue found_modelled → RefinesCall (live self.old) (live self.new) (left self.old) (left self.new)
             Close (λ unit. unit) answered };
 
-    /// What holds of every host at any time, told or not: its count of faults is a number of 64 bits, and where it
-    /// tells its world, each live handle's node is a node of the tree, and a file where the handle was opened for
-    /// writing, nobody else changes the tree, and the next call finds that world, as the last one left it. Where it tells
-    /// what its calls find, the next one finds what was left with what others do before it. It does nothing: its clauses
-    /// are laws, for a caller that needs one of them.
+    /// What holds of every host at any time, modelled or not: its count of faults is a number of 64 bits, and where it
+    /// is modelled, each live handle's node is a node of the tree, and a file where the handle was opened for
+    /// writing, nobody else changes the tree, and the next call finds that model, as the last one left it. Where
+    /// what its calls find is modelled, the next one finds what was left with what others do before it. It does nothing: its
+    /// clauses are laws, for a caller that needs one of them.
     fn laws(&self)
         ensures faults { (faults self.now).count ≤ 2 ^ 64 - 1 }
         ensures most { (faults self.now).count ≤ (faults self.now).most }

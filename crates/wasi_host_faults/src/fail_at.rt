@@ -29,10 +29,10 @@ macro_rules! by_fate {
 }
 
 /// A host over another one, which fails at listed calls. Each call but `dup` and `close` has a number, from 1 on; one
-/// after that of number 2^64 - 1 has none. A listed call answers `Io`, and the count of faults rises by one; it isn't made,
-/// or it is made first and its answer lost: no byte that it read is kept, and a handle that it gave is closed. All other
-/// calls are those of the inner host. It tells its world where that one does. Contracts see the inner host, the list, and
-/// how many calls came.
+/// after that of number 2^64 - 1 has none. A listed call answers `Io`, and the count of faults rises by one; it isn't
+/// made, or it is made first and its answer lost: no byte that it read is kept, and a handle that it gave is closed.
+/// All other calls are those of the inner host. It is modelled where that one is. Contracts see the inner host, the
+/// list, and how many calls came.
 #[derive(Debug, Drop)]
 pub struct FailAt<H: Host> {
     inner: H,

@@ -21,7 +21,7 @@ pub enum Unfinished {
     Memory,
 }
 
-/// All that is left of a source, at most 16,777,216 bytes. Of one that tells its bytes at most one more is taken, whatever
+/// All that is left of a source, at most 16,777,216 bytes. Of a modelled one at most one more is taken, whatever
 /// the answer.
 pub fn read_all<S: Source>(alloc: Global, source: &mut S) -> Result<Vec<u8>, Unfinished>
     ensures bytes { IsTrue S.modelled → ReadAll (result_map_both (λ v. v.items) (λ e. e) result) (S.left source.old) (S.left source.new) }

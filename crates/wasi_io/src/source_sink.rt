@@ -12,16 +12,16 @@ pub struct Failed;
 
 /// Where bytes come from.
 pub trait Source {
-    /// Whether it tells the bytes that are left.
+    /// Whether it is modelled: contracts know the bytes that are left.
     ghost modelled: { Bool };
 
-    /// The bytes that are left, where it tells them.
+    /// The bytes that are left, where it is modelled.
     ghost left: { Self → List ℕ };
 
     /// How often it failed. The count stands still at 2^64 - 1.
     ghost faults: { Self → ℕ };
 
-    /// Puts the next bytes into the front of the buffer, and answers how many: where it tells its bytes, 0 for a buffer
+    /// Puts the next bytes into the front of the buffer, and answers how many: where it is modelled, 0 for a buffer
     /// that isn't empty exactly where none is left. The rest of the buffer stays as it was, and after a failure all of
     /// it, and none of its bytes is lost then.
     fn read(&mut self, buf: &mut [u8]) -> Result<usize, Failed>
@@ -36,10 +36,10 @@ pub trait Source {
 
 /// Where bytes go.
 pub trait Sink {
-    /// Whether it tells the bytes that it took.
+    /// Whether it is modelled: contracts know the bytes that it took.
     ghost modelled: { Bool };
 
-    /// The bytes that it took, where it tells them.
+    /// The bytes that it took, where it is modelled.
     ghost taken: { Self → List ℕ };
 
     /// How often it failed, or took nothing of a piece that isn't empty. The count stands still at 2^64 - 1.

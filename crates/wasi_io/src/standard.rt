@@ -15,7 +15,7 @@ pub type StdinSource = ReaderSource<Stdin>;
 /// failed.
 pub type StdoutSink = WriterSink<Stdout>;
 
-/// A reader as a source, which gives what the reader gives. It tells no bytes, as it isn't known of the reader's type
+/// A reader as a source, which gives what the reader gives. It isn't modelled, as it isn't known of the reader's type
 /// whether that does; contracts see what is known of those that the reader has left. Each read is one of the reader.
 #[derive(Drop)]
 pub struct ReaderSource<R: Read> {
@@ -73,7 +73,7 @@ impl<R: Read> Source for ReaderSource<R> {
     }
 }
 
-/// A writer as a sink, whose bytes go to the writer. It tells no bytes, as it isn't known of the writer's type whether
+/// A writer as a sink, whose bytes go to the writer. It isn't modelled, as it isn't known of the writer's type whether
 /// that does; contracts see what is known of those that the writer holds. Each write is one of the writer.
 #[derive(Drop)]
 pub struct WriterSink<W: Write> {

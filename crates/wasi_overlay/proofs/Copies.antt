@@ -61,7 +61,7 @@ named_again m k (node ∷ nodes) here = λ i.
     later i within = let same : (k + 1) + i ≡ k + suc i = omega arith in
         ap (names_at m) same ∙ here (suc i) (omega arith)
 
--- rows, names and limits of a tree
+-- inodes, names and limits of a tree
 pub record AreCopied (t : Tree) (rows : List Inode) (copies : AllNames) (most : Limits) : Type 0 where
   pub nodes : map stored_node rows ≡ map (with_names maps.empty) t.nodes
   pub names : HoldsNames t (next_of t) copies

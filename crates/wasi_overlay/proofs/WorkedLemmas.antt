@@ -189,7 +189,7 @@ module _ {m m' : MemState} (was : WorksOnTouched m) where
   ]
   after (Err (Code code)) told = after_look told.after
 
-  -- a call of a host that tells its world leaves it so
+  -- a call of a modelled host leaves it so
   pub works_on_touched : {A : Type 0} {old new : Handles} {call : HostCall} {shown : A → HostAnswer call}
       {r : Result A HostError} → (IsTrue true → RefinesCall old new (model_of m) (model_of m') call shown r) → WorksOnTouched m'
   works_on_touched {r = r} told = after r (told refl)

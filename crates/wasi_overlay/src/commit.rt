@@ -24,7 +24,7 @@ impl<'a> OverStore<'a> {
         MemStore::of_stored(alloc, rows, names, parents, self.limits)
     }
 
-    /// A row of each node.
+    /// An inode of each node.
     fn copy_inodes(&self, alloc: Global) -> Result<Vec<Inode>, AllocError>
         ensures { IfOk result (λ rows. map stored_node rows.items ≡ map (with_names maps.empty) self.now.tree.nodes) }
     {
@@ -35,7 +35,7 @@ impl<'a> OverStore<'a> {
         Ok(rows)
     }
 
-    /// The row of a node, without a directory's names.
+    /// The inode of a node, without a directory's names.
     fn copy_inode(&self, alloc: Global, n: u64) -> Result<Inode, AllocError>
         requires { n < next_of self.now.tree }
         ensures { IfOk result (λ inode. stored_node inode ≡ with_names maps.empty (node_at self.now.tree n)) }

@@ -10,8 +10,8 @@ use std::marker::Model;
 use wasi_host::{Bits, FileType, Metadata};
 use wasi_tree::{Inode, MemStore, NodeStore};
 
-/// The nodes of a tree that stays, and behind them nodes that were made. Contracts see the nodes by number, and how many
-/// more can be made before memory is taken.
+/// The nodes of a tree that stays, and behind them nodes that were made. Contracts see the nodes by number, and how
+/// many more can be made before memory is taken.
 #[derive(Debug, Drop)]
 pub struct Grown<'a> {
     base: &'a MemStore,
@@ -189,7 +189,7 @@ impl<'a> Grown<'a> {
     }
 }
 
-/// The row of the node of a number, where it was made.
+/// The inode of the node of a number, where it was made.
 #[inline(always)]
 fn inode_of<'a>(base: &MemStore, made: &'a [Inode], n: u64) -> Option<&'a Inode>
     requires { n < length (grown base.now.tree.nodes made.now) }

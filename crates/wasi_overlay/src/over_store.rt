@@ -266,7 +266,12 @@ impl<'a> NodeStore for OverStore<'a> {
     }
 
     /// All room is taken first, so that nothing has changed where memory is wanted.
-    fn make_node(&mut self, directory: u64, name: Name<'_>, inode: Inode) -> Result<u64, AllocError> {
+    fn make_node(
+        &mut self,
+        directory: u64,
+        name: Name<'_>,
+        inode: Inode,
+    ) -> Result<u64, AllocError> {
         let node = self.nodes.count();
         self.nodes.reserve()?;
         self.parents.reserve()?;

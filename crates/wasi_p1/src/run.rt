@@ -47,16 +47,17 @@ pub fn ends_run(answer: Answer) -> bool
 }
 
 /// One call of the context, by the method of its name, with its arguments in the order of `wasi_snapshot_preview1`.
-/// Where it is valid, so that its row answers it, it is answered, unless memory was wanted or the host failed. No error
-/// number is answered that `may_be_answered` doesn't list. A trap, want of memory and every error number but `io` leave all
-/// as before: the descriptors, the guest's memory, its outputs, what it has left of its input, the clocks, the place in the
-/// random bytes, and the tree of a host that tells it.
+/// Where it is valid, so that its specification answers it, it is answered, unless memory was wanted or the host
+/// failed. No error number is answered that `may_be_answered` doesn't list. A trap, want of memory and every error
+/// number but `io` leave all as before: the descriptors, the guest's memory, its outputs, what it has left of its
+/// input, the clocks, the place in the random bytes, and the tree of a host that tells it.
 ///
-/// A call that names a descriptor under append-only permissions takes no step but one that adds, whatever it answers. It is
-/// so of a guest whose files under such permissions are in append mode, as those of a new context are, which has none, and
-/// as they are after each call.
+/// A call that names a descriptor under append-only permissions takes no step but one that adds, whatever it answers.
+/// It is so of a guest whose files under such permissions are in append mode, as those of a new context are, which has
+/// none, and as they are after each call.
 ///
-/// Files that are written as they were opened, as those of a new context are, which has none, still are after each call.
+/// Files that are written as they were opened, as those of a new context are, which has none, still are after each
+/// call.
 #[tactic(auto, using(wasi_p1_model::proofs::Completing::turn_completes))]
 pub fn call<H: Host>(
     context: &mut WasiP1Ctx<H>,
@@ -290,12 +291,12 @@ fn call_with<H: Host>(
 /// calls that were answered.
 ///
 /// The nodes that a run makes, and the bytes by which it makes files longer, are at most what the quota leaves at its
-/// start, however often the host fails; and each call counts its use. It is so of a guest whose files are written as they
-/// were opened, as those of a new context are, which has none, and as they are after each run.
+/// start, however often the host fails; and each call counts its use. It is so of a guest whose files are written as
+/// they were opened, as those of a new context are, which has none, and as they are after each run.
 ///
 /// Where the host didn't fail, what a guest is answered, has in its memory and writes out rests on what is in its reach
-/// alone: from each state that differs from the one before only where the guest can't come to, the same calls are answered
-/// the same, and leave the same guest, and the same nodes where it could come to and of what it made.
+/// alone: from each state that differs from the one before only where the guest can't come to, the same calls are
+/// answered the same, and leave the same guest, and the same nodes where it could come to and of what it made.
 pub fn run_calls<H: Host>(
     alloc: Global,
     context: &mut WasiP1Ctx<H>,

@@ -22,8 +22,10 @@ use wasi_guest::{
 };
 use wasi_host::Host;
 use wasi_p1_state::descriptors::Descriptors;
-use wasi_p1_state::lookups::{write_target_at, read_target_at};
-use wasi_p1_types::{Awaited, Clocks, GuestEnv, INVALID, Judged, P1Error, WriteTarget, ReadTarget, Waited};
+use wasi_p1_state::lookups::{read_target_at, write_target_at};
+use wasi_p1_types::{
+    Awaited, Clocks, GuestEnv, INVALID, Judged, P1Error, ReadTarget, Waited, WriteTarget,
+};
 
 /// How many bytes a subscription has in memory.
 const SUBSCRIPTION: u32 = Subscription::SIZE as u32;
@@ -261,7 +263,7 @@ pub fn sizes_of<H: Host>(
     ensures live { H.live host.new ≡ H.live host.old }
     ensures logged { H.lookups host.new ≡ H.lookups host.old }
 
-    // The row, over every host and over one that tells its world.
+    // The specification, over every host and over a modelled one.
     ensures front { IsReplied (Sizes (nodes_read (map (waited_by (H.model host.old).held) waited.now))) give
         (result_map_both (λ sizes. sizes.items) (λ e. e) result) }
     ensures modelled { IsTrue H.modelled → Makes (Rose (H.faults host.old) (H.faults host.new)) (H.live host.old)

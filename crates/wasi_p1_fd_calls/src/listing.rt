@@ -17,7 +17,7 @@ use wasi_p1_types::P1Error;
 /// more are left. From a cookie past the last record nothing is written. Refusals, in this order: Badf where the
 /// number isn't a directory's; trap TableFull where as many descriptors are live as may be; those of the host's
 /// `open_at` of `.`, as POSIX's `openat`: Acces where the directory may not be searched, or not be read; trap
-/// Pointer where what is to be written leaves the memory. No host that tells its tree refuses the listing behind
+/// Pointer where what is to be written leaves the memory. No modelled host refuses the listing behind
 /// the open, or the look at a name of it. What was opened is closed again. Each page costs a listing, a look at
 /// each name included, and memory by its length.
 #[tactic(auto, using(wasi_p1_model::proofs::Taking::refusals, wasi_p1_model::proofs::CallTracing::traced_below), unfolding(wasi_p1_model::specs::Calls::Listing::fd_readdir))]

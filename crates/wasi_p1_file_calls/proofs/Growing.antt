@@ -123,7 +123,7 @@ size_grows size = record {
 rises_on : (a b c : FaultCount) → a.count ≤ b.count → Rose b c → Rose a c
 rises_on a b c later rose = omega (arith, later, rose)
 
--- over a host that tells, a handle stands for the same as before the look
+-- over a modelled host, a handle stands for the same as before the look
 still_held : {H : Type 0} {modelled : Bool} {model : H → HostModel} {rose : Type 0} {live : Handles} {old mid : H}
     {limit : Option Allowance} {n growth : ℕ} {end : FileEnd}
     → ChecksGrowth modelled model rose live old mid limit n end (Ok growth) → IsTrue modelled → (h : ℕ) → contains live h ≡ true

@@ -79,7 +79,7 @@ pub fn set_size<H: Host>(
     ensures live { H.live fs.new.host ≡ H.live fs.old.host }
     ensures logged { H.lookups fs.new.host ≡ H.lookups fs.old.host }
 
-    // The row, over every host and over one that tells its world.
+    // The specification, over every host and over a modelled one.
     ensures front { IsReplied (Direct (SetSize ((H.model fs.old.host).held file.now.file) size)) (λ _. give tt) result }
     ensures modelled { IsTrue H.modelled → Makes (Rose (H.faults fs.old.host) (H.faults fs.new.host)) (H.live fs.old.host)
         (H.model fs.old.host) (H.model fs.new.host)

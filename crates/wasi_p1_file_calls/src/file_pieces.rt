@@ -80,7 +80,7 @@ fn position_from_end<H: Host>(host: &mut H, file: Handle, offset: i64) -> Result
     ensures logged { H.lookups host.new ≡ H.lookups host.old }
     ensures never_wants { IfErr result WantsNoMemory }
 
-    // The row, over every host and over one that tells its world.
+    // The specification, over every host and over a modelled one.
     ensures front { IsReplied (Direct (Stat ((H.model host.old).held file).node))
         (λ metadata. position_from metadata.size offset) result }
     ensures modelled { IsTrue H.modelled → Makes (Rose (H.faults host.old) (H.faults host.new)) (H.live host.old)
@@ -107,7 +107,7 @@ pub fn position_sought<H: Host>(
     ensures logged { H.lookups host.new ≡ H.lookups host.old }
     ensures never_wants { IfErr result WantsNoMemory }
 
-    // The row, over every host and over one that tells its world.
+    // The specification, over every host and over a modelled one.
     ensures known { Knows (base_in position whence) (λ base. position_from base offset) result host.old host.new }
     ensures front { base_in position whence ≡ None → IsReplied (Direct (Stat ((H.model host.old).held file).node))
         (λ metadata. position_from metadata.size offset) result }
@@ -131,7 +131,7 @@ fn append_piece<H: Host>(host: &mut H, file: Handle, piece: &[u8]) -> Result<u64
     ensures live { H.live host.new ≡ H.live host.old }
     ensures logged { H.lookups host.new ≡ H.lookups host.old }
 
-    // The row, over every host and over one that tells its world.
+    // The specification, over every host and over a modelled one.
     ensures front { IsReplied (Direct (Append ((H.model host.old).held file) piece.now)) give result }
     ensures modelled { IsTrue H.modelled → Makes (Rose (H.faults host.old) (H.faults host.new)) (H.live host.old)
         (H.model host.old) (H.model host.new) (Direct (Append ((H.model host.old).held file) piece.now)) give result }
@@ -150,7 +150,7 @@ fn put_behind<H: Host>(host: &mut H, file: Handle, piece: &[u8]) -> Result<Put, 
     ensures live { H.live host.new ≡ H.live host.old }
     ensures logged { H.lookups host.new ≡ H.lookups host.old }
 
-    // The row, over every host and over one that tells its world.
+    // The specification, over every host and over a modelled one.
     ensures front { IsReplied (Behind ((H.model host.old).held file) piece.now) (λ put. give (appended_in put)) result }
     ensures modelled { IsTrue H.modelled → Makes (Rose (H.faults host.old) (H.faults host.new)) (H.live host.old)
         (H.model host.old) (H.model host.new) (Behind ((H.model host.old).held file) piece.now)
@@ -178,7 +178,7 @@ pub fn put_piece<H: Host>(
     ensures live { H.live host.new ≡ H.live host.old }
     ensures logged { H.lookups host.new ≡ H.lookups host.old }
 
-    // The row, over every host and over one that tells its world.
+    // The specification, over every host and over a modelled one.
     ensures front { IsReplied (Direct (put_call modes.append ((H.model host.old).held file) offset piece.now))
         (λ answer. give (count_in modes.append ((H.model host.old).held file) offset piece.now answer)) result }
     ensures modelled { IsTrue H.modelled → Makes (Rose (H.faults host.old) (H.faults host.new)) (H.live host.old)
@@ -206,7 +206,7 @@ pub fn put_next<H: Host>(
     ensures live { H.live host.new ≡ H.live host.old }
     ensures logged { H.lookups host.new ≡ H.lookups host.old }
 
-    // The row, over every host and over one that tells its world.
+    // The specification, over every host and over a modelled one.
     ensures front { IsReplied (put_request modes.append ((H.model host.old).held file) position piece.now)
         (λ reply. give (put_in modes.append ((H.model host.old).held file) position piece.now reply)) result }
     ensures modelled { IsTrue H.modelled → Makes (Rose (H.faults host.old) (H.faults host.new)) (H.live host.old)
@@ -248,7 +248,7 @@ fn growth_of<H: Host>(
     ensures never_wants { IfErr result WantsNoMemory }
     ensures fits { IfOk result (λ growth. limit.used + growth ≤ limit.most) }
 
-    // The row, over every host and over one that tells its world.
+    // The specification, over every host and over a modelled one.
     ensures front { IsReplied (Direct (Stat ((H.model host.old).held file).node))
         (λ metadata. growth_from limit end metadata.size) result }
     ensures modelled { IsTrue H.modelled → Makes (Rose (H.faults host.old) (H.faults host.new)) (H.live host.old)
@@ -276,7 +276,7 @@ pub fn check_growth<H: Host>(
     ensures fits { IfOk result (λ growth. IfSome holdings.now.quota.bytes
         (λ most. holdings.now.used.bytes + growth ≤ most)) }
 
-    // The row, over every host and over one that tells its world.
+    // The specification, over every host and over a modelled one.
     ensures unbound { allowance holdings.now file.now.open_mode ≡ None → (result ≡ Ok 0) × (host.new ≡ host.old) }
     ensures front { (limit : Allowance) → allowance holdings.now file.now.open_mode ≡ Some limit
         → IsReplied (Direct (Stat ((H.model host.old).held file.now.file).node))

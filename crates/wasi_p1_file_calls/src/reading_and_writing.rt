@@ -10,9 +10,9 @@ use crate::transfer::read_into;
 use wasi_guest::{Iovec, Value};
 use wasi_host::Host;
 use wasi_p1_state::P1State;
-use wasi_p1_state::lookups::{file_at, put_back, write_target_at, read_target_at};
+use wasi_p1_state::lookups::{file_at, put_back, read_target_at, write_target_at};
 use wasi_p1_types::{
-    FileSlot, FileUse, P1Error, Put, WriteTarget, ReadTarget, buffer_at, bytes_at, check_write,
+    FileSlot, FileUse, P1Error, Put, ReadTarget, WriteTarget, buffer_at, bytes_at, check_write,
 };
 
 /// How many bytes a read at an offset fills at most.
@@ -55,8 +55,8 @@ pub fn fd_pread<H: Host>(
 /// Pointer where a record up to that one isn't aligned to 4 or leaves the memory; Spipe of an output, and Badf where
 /// the number else isn't a file's; trap Pointer where the buffer leaves the memory; Badf under read-only
 /// permissions; Dquot where a bound on grown bytes would be passed, for which the host is asked for the file's size;
-/// then the host's, which are those of POSIX's `pwrite`. An answer counts the bytes by which the file grew, and so may a
-/// failure of the host.
+/// then the host's, which are those of POSIX's `pwrite`. An answer counts the bytes by which the file grew, and so may
+/// a failure of the host.
 #[tactic(auto, using(wasi_p1_model::proofs::Taking::refusals), unfolding(wasi_p1_model::specs::Calls::ReadingAndWriting::fd_pwrite))]
 pub fn fd_pwrite<H: Host>(
     context: &mut P1State<H>,
@@ -124,7 +124,7 @@ pub fn fd_read<H: Host>(
 /// Writes the first buffer that has bytes, of so many records at an address, into a file at its position, or behind
 /// what was written to an output, and answers how many bytes it took; a file's position is behind them afterwards.
 /// In append mode they go behind the file's last byte, and its position is its size afterwards.
-/// An output, and a host that tells its world, takes all of them. Refusals, in this order: Nomem where the records,
+/// An output, and a modelled host, takes all of them. Refusals, in this order: Nomem where the records,
 /// or the buffer, are more than the fuel; trap Pointer where a record up to that one isn't aligned to 4 or leaves
 /// the memory; Badf where the number is neither a file's nor an output's; trap Pointer where the buffer leaves the
 /// memory; then of a file Badf under read-only permissions, Dquot where a bound on grown bytes would be passed, for

@@ -32,7 +32,7 @@ pub fn read_into<H: Host>(
     ensures fits { IfOk result (λ n. position + n < 2 ^ 64) }
     ensures same { OnErr result (memory.new ≡ memory.old) }
 
-    // The row, over every host and over one that tells its world.
+    // The specification, over every host and over a modelled one.
     ensures front { IsReplied (Direct (Pread ((H.model host.old).held file) position buffer.buf_len))
         (filled_at memory.old buffer.buf) (with_after result memory.new) }
     ensures modelled { IsTrue H.modelled → ReadsInto (Rose (H.faults host.old) (H.faults host.new)) (H.live host.old)
@@ -60,7 +60,7 @@ pub fn write_piece<H: Host>(
     ensures logged { H.lookups host.new ≡ H.lookups host.old }
     ensures fits { IfOk result (λ n. position + n < 2 ^ 64) }
 
-    // The row, over every host and over one that tells its world.
+    // The specification, over every host and over a modelled one.
     ensures front { IsReplied (Direct (Pwrite ((H.model host.old).held file) position piece.now)) give result }
     ensures modelled { IsTrue H.modelled → WritesPiece (Rose (H.faults host.old) (H.faults host.new)) (H.live host.old)
         (H.model host.old) (H.model host.new) ((H.model host.old).held file) position piece.now result }

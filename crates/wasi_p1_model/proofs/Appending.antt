@@ -32,7 +32,7 @@ use Rattle.wasi_p1_model.proofs.Reading.{keeps_all}
 
 -- ---- the look
 
--- no row refuses it
+-- no rule refuses it
 pub seen : (t : Tree) (n : ℕ) → host_answer t (Stat n) ≡ Ok (metadata_of t n)
 unfolding refusal
 seen t n = refl
@@ -194,7 +194,7 @@ module _ {rose : Type 0} {live mid new : Handles} {w u v : HostModel} {h : ℕ} 
           → reply_of w.tree (Behind (w.held h) piece) ≡ Ok (count, metadata)
       replies is = answered_both (w.held h) piece w.tree is ∙ ap (λ m. Ok (count, m)) (sym (same first.does))
 
-  -- the look wasn't answered, which no row refuses
+  -- the look wasn't answered, which no rule refuses
   pub behind_unseen : {again : Type 0} {code : ErrorCode}
       → ((let r : Result Metadata HostError = Err (Code code) in r) ≡ Err (Code Io) → again)
       → RefinesCall {A = Metadata} mid new u v (Stat (u.held h).node) (λ m. m) (Err (Code code))

@@ -191,7 +191,7 @@ module _ {H : Type 0} {modelled : Bool} {model : H → HostModel} {faults : H �
     module _ {b : B} (may : MayReply (Path p) (shown b))
         (resolves : IsTrue modelled
         → Resolved live (model old.host) (model new.host) (meant_by (model old.host).tree p) shown (Ok b)) where
-      -- the row refused what was found
+      -- the specification refused what was found
       pub found_refused : {e : P1Error} → next (shown b) ≡ Err e → IsTrue (may_run_out_of_memory call) → Kept old new before after
           → FollowsSpec modelled model faults lookups old new before after call (Err e)
       found_refused is wants kept =

@@ -260,7 +260,7 @@ new_slot_file {f} perms mode modes found is = by found.is_dir is
     by true is = absurd (cc)
     by false is = (let same : f.perms ≡ perms = (cc) in same, let same : f.modes ≡ modes = (cc) in same)
 
--- ---- what a row does to them
+-- ---- what a specification does to them
 
 -- a file's modes still append, where they have to
 abbrev pub StaysAppending : OpenFile → FileModes → Type 0
@@ -376,9 +376,9 @@ nodes_stay {g} {p = p} stays n has =
     let (fd, at) = has_number p.1.slots n has in
     elim (stays.nodes fd n at) [ inl was ↦ inl (slice_named g.slots _ n was) | inr (new, _) ↦ inr new ]
 
--- ---- what a row writes into memory, or tells
+-- ---- what a specification writes into memory, or tells
 
--- a row that writes bytes, where the range is this
+-- a specification that writes bytes, where the range is this
 abbrev writes : Guest → ℕ → List ℕ → CallResult (List ℕ) → CallResult (Value × Guest)
 writes g buf bytes m =
     m >>= (λ _. give (length bytes, with_bytes g.memory buf bytes)) >>= (λ p. give (with_text g p))
@@ -398,7 +398,7 @@ pub written_bytes : (g : Guest) (buf : ℕ) (bytes : List ℕ) (m : CallResult (
 written_bytes g buf bytes (Ok part) are more = (put_bytes g.memory bytes buf are.0 more, are.1)
 written_bytes g buf bytes (Err e) are more = tt
 
--- a row that tells of a node
+-- a specification that tells of a node
 abbrev tells : Guest → CallResult Filestat → CallResult (Value × Guest)
 tells g m = m >>= (λ stat. give (with_filestat g stat))
 

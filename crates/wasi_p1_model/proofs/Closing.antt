@@ -56,7 +56,7 @@ left_there {perms} slots from to other has =
 
 -- ---- a turn that answers such a call
 
--- what is answered Ok was answered by its row
+-- what is answered Ok was answered by its specification
 answered_ok : (t : TraceStep) (x : Value) → t.answer ≡ answers.Ok x → Played t ⊎ Faulted t
     → turn t.before t.call ≡ Ok (x, t.after)
 answered_ok t x is (inr faulted) = let io = sym is ∙ faulted.io in absurd (cc)

@@ -25,7 +25,7 @@ use Rattle.wasi_p1_model.proofs.LocalCalls.{Ends, IsLocal}
 use Rattle.wasi_p1_model.proofs.Locality.{spec_near}
 use Rattle.wasi_p1_types.proofs.Wanting.{IsRefusal, Never}
 
--- ---- of a row over a tree
+-- ---- of a specification over a tree
 
 over_never : (t : Tree) (m : CallResult (Value × Guest)) → Never m → Never (over t m)
 over_never t (Ok p) never = tt

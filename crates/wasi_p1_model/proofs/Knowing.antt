@@ -23,7 +23,7 @@ use Rattle.wasi_p1_types.specs.declared.error.P1Error.TheVariants.{Memory}
 use Rattle.wasi_p1_model.proofs.Below.{same_view}
 use Rattle.wasi_p1_model.proofs.Taking.{refused_at, makes_err, put_answered, put_ok, guest_put, Made, PutBack}
 
--- the end of a row, of what is made of what is known
+-- the end of a specification, of what is made of what is known
 abbrev known_end : {A : Type 0} → ℕ → (A → Value × Guest) → CallResult A → CallResult (Program (Value × Guest)) × ℕ
 known_end fuel shown m = onward m fuel (λ x. answer (shown x))
 

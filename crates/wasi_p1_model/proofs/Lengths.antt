@@ -1,4 +1,4 @@
--- The requests of the rows that make something or make a file grow, from what their parts ask.
+-- The requests of the specifications that make something or make a file grow, from what their parts ask.
 use Rattle.std.proofs.Common.{ℕ, ◌≡◌, ◌<◌, ◌≤◌, inl, inr, Bool, true, false, [], ◌∷◌, List, Option, Some, None, Result, Ok, Err, refl, ap, sym, subst, ◌∙◌, arith}
 use Rattle.std.specs.FinSet.{contains}
 use Rattle.std.specs.Prelude.{IsTrue, if◌then◌else◌}
@@ -41,7 +41,7 @@ pub made_permitted : (makes : Bool) (own : Option ErrorCode) (s : GuestEnvModel)
 made_permitted makes None s left = refl
 made_permitted makes (Some code) s left = absurd (cc)
 
--- and then a row that makes something asks, and its answer is counted
+-- and then a specification that makes something asks, and its answer is counted
 pub made_tail : {A : Type 0} {fuel : ℕ} (makes : Bool) (own : Option ErrorCode) (r : Request) (next : Reply r → CallResult A)
     (shown : Guest → A → Value × Guest) (g : Guest) → check_to_make makes own g.holdings ≡ Ok tt
     → making makes g (tail own r next shown g) fuel ≡ ask r (made_of_reply r next (λ x. made makes (shown g x))) fuel
@@ -65,7 +65,7 @@ grow_next limit w next reply = grown_in limit w reply >>= (λ grown. next grown.
 abbrev pub grow_shown : {A : Type 0} → (Guest → A → Value × Guest) → Guest → ℕ × A → Value × Guest
 grow_shown shown g p = with_growth p.0 (shown g p.1)
 
--- a row that makes a file grow asks so
+-- a specification that makes a file grow asks so
 pub grow_tail : {A : Type 0} {fuel : ℕ} (limit : Option Allowance) (w : Request) (next : Reply w → CallResult A)
     (shown : Guest → A → Value × Guest) (g : Guest)
     → growing limit (ask w (made_of_reply w next (shown g))) fuel

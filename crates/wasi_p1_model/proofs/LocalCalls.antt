@@ -1,7 +1,8 @@
--- What holds of each row: its request starts at descriptors that its call names, and may be asked of a host; no node
--- comes to a descriptor but from the reply, and else that of the descriptor from which it stems, as its permissions do;
--- its step is permitted to the descriptors that its call names; it isn't refused after a step, nor before it asks because
--- memory was wanted; it is refused by no error number that isn't listed; and it leaves bytes in memory.
+-- What holds of each specification: its request starts at descriptors that its call names, and may be asked of a host;
+-- no node comes to a descriptor but from the reply, and else that of the descriptor from which it stems, as its
+-- permissions do; its step is permitted to the descriptors that its call names; it isn't refused after a step, nor
+-- before it asks because memory was wanted; it is refused by no error number that isn't listed; and it leaves bytes in
+-- memory.
 use Rattle.std.specs.Prelude.{ℕ, ◌≡◌, ◌≢◌, ◌⊎◌, List, [], All, slice_get, Contains, IsUtf8, Some, None, Ok, Err, IfErr}
 use Rattle.wasi_fs.specs.declared.perms.FsPerms.{FsPerms}
 use Rattle.wasi_fs.specs.declared.perms.FsPerms.TheVariants.{ReadOnly, AppendOnly}
@@ -89,9 +90,9 @@ Has g n = Contains (open_nodes g.slots) n
 abbrev pub HasNode : Guest → ℕ → ℕ → Type 0
 HasNode g fd n = Contains (node_in (slice_get g.slots fd)) n
 
--- Each descriptor's node is that of the one from which it stems so, or is given, where it was opened through that one; it
--- has the permissions of that one; files under append-only permissions are still appended to; and no more numbers are given
--- than descriptors may be live
+-- Each descriptor's node is that of the one from which it stems so, or is given, where it was opened through that one;
+-- it has the permissions of that one; files under append-only permissions are still appended to; and no more numbers
+-- are given than descriptors may be live
 pub record StaysNear (g : Guest) (stem : Stem) (given : List ℕ) (p : Value × Guest) : Type 0 where
   pub nodes : (fd n : ℕ) → HasNode p.1 fd n → HasNode g (stems_by stem (answers.Ok p.0) fd) n
       ⊎ (Contains given n × (stem ≡ through (stems_by stem (answers.Ok p.0) fd)))
@@ -109,9 +110,9 @@ abbrev pub KeepsBytes : CallResult (Value × Guest) → Type 0
 KeepsBytes (Ok p) = HasBytes p.1
 KeepsBytes (Err e) = Unit {0}
 
--- ---- of a row
+-- ---- of a specification
 
--- what refuses a reply is a row's refusal, and then nothing was done
+-- what refuses a reply is a specification's refusal, and then nothing was done
 abbrev pub Ends : {A : Type 0} → Type 0 → CallResult A → Type 0
 Ends undone m = IfErr m (λ e. IsRefusal e × undone)
 
@@ -151,7 +152,7 @@ IsLocal g call (Ok (done p)) = AnswersNear g call p
 IsLocal g call (Ok (asking r next)) = AsksNear g call r next
 IsLocal g call (Err e) = IsRefusal e
 
--- what is made of what a row gives
+-- what is made of what a specification gives
 module _ {A : Type 0} (shown : A → Value × Guest) where
   pub made_slots : {stem : Stem} (g : Guest) (given : List ℕ) (m : CallResult A) → ((x : A) → StaysNear g stem given (shown x))
       → KeepsSlots g stem given (m >>= (λ x. give (shown x)))

@@ -1,4 +1,4 @@
--- What holds of each row, a file a family.
+-- What holds of each specification, a file a family.
 use Rattle.std.proofs.Common.{refl}
 use Rattle.wasi_guest.specs.declared.answer.Value.TheVariants.{Unit as Nothing}
 use Rattle.wasi_guest.specs.declared.call.Call.{Call}

@@ -22,21 +22,21 @@ use Rattle.wasi_p1_model.proofs.Alike.{over, spec_on, replied}
 use Rattle.wasi_p1_model.proofs.Locality.SpecParts.{taken}
 use Rattle.wasi_p1_model.proofs.Uses.{used_counts, with_counts}
 
--- ---- what a call leaves that its row didn't answer
+-- ---- what a call leaves that its specification didn't answer
 
--- the tree has the row's one step
+-- the tree has the specification's one step
 pub record TookStep (u : Tree) (call_spec : CallResult (Value × State)) : Type 0 where
   pub given : Value × State
   pub answers : call_spec ≡ Ok given
   pub tree : u ≡ given.1.tree
 
--- all stays but for counts of what is used and, maybe, the row's one step in the tree
+-- all stays but for counts of what is used and, maybe, the specification's one step in the tree
 pub record StaysBut (s s' : State) (call_spec : CallResult (Value × State)) : Type 0 where
   pub used : QuotaUsed
   pub guest : s'.guest ≡ with_counts used s.guest
   pub tree : (s'.tree ≡ s.tree) ⊎ TookStep s'.tree call_spec
 
--- it is the row's, or all stays but for that
+-- it is the specification's, or all stays but for that
 abbrev pub Moves : State → State → CallResult (Value × State) → Type 0
 Moves s s' call_spec = ((x : Value) × (call_spec ≡ Ok (x, s'))) ⊎ StaysBut s s' call_spec
 
@@ -124,7 +124,7 @@ run_keeps Holds keeps (call ∷ calls) (t ∷ turns) k old new (j, before, is, s
     later next true (none, last) = subst Holds (sym last) then
     later next false on = next on
 
--- ---- the answer of a row over a tree
+-- ---- the answer of a specification over a tree
 
 pub over_tree : {t : Tree} {p : Value × State} (m : CallResult (Value × Guest)) → over t m ≡ Ok p → p.1.tree ≡ t
 over_tree {t} {p} (Ok q) is =
@@ -136,7 +136,7 @@ over_guest {p} t (Ok q) is =
     let same : with_tree (q, t) ≡ p = (cc) in ap (λ (x : Value × State). Ok (x.0, x.1.guest)) same
 over_guest t (Err e) is = absurd (cc)
 
--- ---- the parts of a row that was answered
+-- ---- the parts of a specification that was answered
 
 -- each gave what the next one took
 pub gave : {A : Type 0} {p : Value × State} (t : Tree) (m : CallResult A) (next : A → CallFront) (fuel : ℕ)

@@ -23,7 +23,7 @@ use Rattle.wasi_p1_model.proofs.Stemming.{turn_stems}
 
 -- ---- what a call does is permitted
 
--- where its row answers it
+-- where its specification answers it
 spec_permits : (g : Guest) (call : Call) (t : Tree) (m : CallResult (Program (Value × Guest))) (p : Value × State)
     → IsLocal g call m → spec_on t m ≡ Ok p → Permitted g call t p.1.tree
 spec_permits g call t (Ok (done q)) p near is = leaves (over_tree (Ok q) is)

@@ -1,5 +1,5 @@
--- What polls wait for: each part is refused as parts of rows are, the files are those of descriptors that are named,
--- and what is told are bytes.
+-- What polls wait for: each part is refused as parts of specifications are, the files are those of descriptors that are
+-- named, and what is told are bytes.
 use Rattle.std.proofs.Common.{ℕ, zero, suc, ◌+◌, ◌-◌, ◌*◌, ◌/◌, ◌%◌, ◌^◌, ◌≡◌, ◌<◌, inl, inr, true, false, cond, Bool, nat_le, nat_lt, List, [], ◌∷◌, ◌++◌, length, drop, refl, sym, subst, slice_get, Ok, Err, arith}
 use Rattle.std.specs.Prelude.{Contains, ◌==◌, ◌&&◌}
 use Rattle.std.specs.Int.{to_le_bytes, byte_at, bytes_low_first, w16, w64}

@@ -1,4 +1,4 @@
--- What a row makes and grows, against what it counts.
+-- What a specification makes and grows, against what it counts.
 use Rattle.std.proofs.Common.{ℕ, ◌+◌, ◌-◌, ◌≡◌, ◌≤◌, ◌⊎◌, inl, inr, Bool, true, false, cond, List, length, drop, slice_get, slice_set, refl, ap, sym, ◌∙◌, subst, arith, Option, Some, None, Ok, Err}
 use Rattle.std.specs.Option.{option_map}
 use Rattle.std.specs.Prelude.{IfOk, IfSome}
@@ -52,7 +52,7 @@ pub record SpendsWithin (makes : Bool) (growth : ℕ) (g h : Guest) (t u : Tree)
       (spent makes growth g.holdings).used.bytes (total_bytes u - total_bytes t)
   pub opened : WritesAsOpened g → WritesAsOpened h
 
--- so a row does that asks, or answers at once
+-- so a specification does that asks, or answers at once
 abbrev pub Uses : Bool → Guest → Program (Value × Guest) → Type 0
 Uses makes g (done p) = (t : Tree) → SpendsWithin makes 0 g p.1 t t
 Uses makes g (asking r next) = (t : Tree) (reply : Reply r) → reply_of t r ≡ Ok reply
@@ -124,7 +124,7 @@ nothing_done makes growth g t = record {
   opened = λ all. all;
 }
 
--- ---- rows that make and grow nothing
+-- ---- specifications that make and grow nothing
 
 -- a request that counts no growth makes so many nodes at most, and no file longer, and the counts stay
 pub record Makes (most : ℕ) (g : Guest) (r : Request) (next : Reply r → CallResult (Value × Guest)) : Type 0 where
@@ -160,7 +160,7 @@ shown_ok : (P Q : Value × Guest → Type 0) (shown : Value × Guest → Value �
 shown_ok P Q shown (Ok p) all has = all p has
 shown_ok P Q shown (Err e) all has = tt
 
--- ---- rows that make something
+-- ---- specifications that make something
 
 abbrev pub IsMaking : Guest → Program (Value × Guest) → Type 0
 IsMaking g (done p) = ⊥
@@ -202,7 +202,7 @@ made_uses g (Ok (asking r next)) makes = by (may_make g.holdings) refl
     by (Ok left) may = λ t reply is. shown_ok (λ p. KeepsUse g p.1) _ with_making (next reply)
         (λ p keeps. made_spends (makes.none t) may (makes.within t reply is) keeps) (makes.keeps t reply is)
 
--- ---- rows that make a file longer
+-- ---- specifications that make a file longer
 
 -- a request that writes a file, or gives it a size, which was opened for that where its handle does so
 pub record WritesFile (g : Guest) (f : OpenFile) (w : Request) (next : Reply w → CallResult (Value × Guest)) : Type 0 where

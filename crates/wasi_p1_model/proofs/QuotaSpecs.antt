@@ -1,4 +1,4 @@
--- What each row makes and grows, and what it counts of it.
+-- What each specification makes and grows, and what it counts of it.
 use Rattle.std.proofs.Common.{ℕ, ◌≡◌, ◌+◌, ◌*◌, Bool, true, false, cond, List, [], ◌∷◌, length, take, refl, sym, subst, slice_get, Option, Some, None, Ok, Err}
 use Rattle.std.specs.Prelude.{IfOk, is_some, ℤ}
 use Rattle.wasi_fs.specs.Calls.{may_add_name, may_do, may_link, may_rename, opens}
@@ -86,7 +86,7 @@ module _ {P : Program (Value × Guest) → Type 0} where
   pub asks : {r : Request} {next : Reply r → CallResult (Value × Guest)} → P (asking r next) → Comes P (ask r next)
   asks is = record { comes = λ fuel. is }
 
--- a call's row spends so
+-- a call's specification spends so
 abbrev pub SpecUses : Guest → Call → Type 0
 SpecUses g call = Comes (Uses (makes call) g) (front g call)
 
@@ -104,7 +104,7 @@ grown : {g : Guest} {m : CallFront} (f : OpenFile) → Comes (IsGrowing g f) m
     → Comes (Uses false g) (growing (allowance g.holdings f.open_mode) m)
 grown {g} {m} f is = record { comes = λ fuel. grown_uses g f (m fuel).0 (is.comes fuel) }
 
--- ---- ends of rows
+-- ---- ends of specifications
 
 -- that it was done, through a path
 path_done : (g : Guest) (p : PathRequest) → Makes (made_by p) g (Path p) (λ _. give (Nothing, g))

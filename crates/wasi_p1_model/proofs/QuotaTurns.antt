@@ -24,7 +24,7 @@ abbrev pub TurnSpends : FueledCall → State → State → Type 0
 TurnSpends call s s' =
     SpendsWithin (makes call.call) (growth_of s.tree (call_spec s.guest call)) s.guest s'.guest s.tree s'.tree
 
--- so does a row that is answered
+-- so does a specification that is answered
 pub answered_spends : (s : State) (call : FueledCall) {p : Value × State} → turn s call ≡ Ok p → TurnSpends call s p.1
 answered_spends s call {p} is = by (call_spec s.guest call) (spec_uses s.guest call) is
   where
@@ -39,7 +39,7 @@ answered_spends s call {p} is = by (call_spec s.guest call) (spec_uses s.guest c
         (IfOk-at_ok _ did.gives (uses s.tree did.reply did.is))
     by (Err e) uses is = absurd (cc)
 
--- the host failed: nothing was done, or counted; or it was counted, and maybe the row's step was made
+-- the host failed: nothing was done, or counted; or it was counted, and maybe the specification's step was made
 faulted_spends : (s s' : State) (call : FueledCall) → AfterFault (used_by s call) s s' (turn s call)
     → (s' ≡ s) ⊎ TurnSpends call s s'
 faulted_spends s s' call (inl same) = inl same
@@ -51,7 +51,7 @@ faulted_spends s s' call (inr (inr step)) = inr (by (turn s call) refl step)
     by (Ok p) is step = subst (TurnSpends call s) (sym step) (counted_alone (answered_spends s call is))
     by (Err e) is step = absurd step
 
--- an answer that isn't a row's value is no success
+-- an answer that isn't a specification's value is no success
 refused_not : (e : P1Error) {answer : Answer} → answer_of (Err e) ≡ Some answer → is_success answer ≡ false
 refused_not (Errno e) is = let same : answers.Errno e ≡ _ = (cc) in ap is_success (sym same)
 refused_not (Trap kind) is = let same : answers.Trap kind ≡ _ = (cc) in ap is_success (sym same)

@@ -1,4 +1,4 @@
--- Reading into memory, and what a call of a told host is as a request.
+-- Reading into memory, and what a call of a modelled host is as a request.
 use Rattle.std.proofs.Common.{inl, inr, sym, ◌∙◌, ap, subst, ℕ, List, ◌+◌, ◌≤◌, ◌≡◌, true, Result, Ok, Err, refl, arith, length, take, drop, slice_range}
 use Rattle.std.proofs.lemmas.List.{length-take-le}
 use Rattle.std.specs.FinSet.{contains}
@@ -22,7 +22,7 @@ use Rattle.wasi_p1_types.specs.declared.error.P1Error.TheVariants.{Errno}
 use Rattle.wasi_guest.proofs.Ranges.{with_filled}
 use Rattle.wasi_p1_model.proofs.Resolving.{asked_ok, asked_err}
 
--- a read over a told host of so many bytes, into the front of a buffer
+-- a read over a modelled host of so many bytes, into the front of a buffer
 abbrev pub ReadTold : Handles → Handles → HostModel → HostModel → OpenHandle → ℕ → List ℕ → Result ℕ ErrorCode → ℕ → Type 0
 ReadTold old new w v f position buf result len =
     RefinesCall {A = ℕ} old new w v (Pread f position len) (λ n. take n buf) (hosted result)
@@ -90,7 +90,7 @@ read_err {old = old} {new = new} {w = w} {v = v} {f = f} {position = position} {
       does = inl (asked_err same (Code code) (λ e. io (ap Err e)) modelled');
     }
 
--- ---- one call of a told host, as the request that it stands for
+-- ---- one call of a modelled host, as the request that it stands for
 
 module _ {rose A B : Type 0} {old new : Handles} {w v : HostModel} {call : HostCall} {shown : A → HostAnswer call}
     {next : HostAnswer call → CallResult B} (same : new ≡ old) where
@@ -99,7 +99,7 @@ module _ {rose A B : Type 0} {old new : Handles} {w v : HostModel} {call : HostC
   told_ok {a} modelled is =
       record { keeps = keeps_all w v same modelled.keeps; does = (shown a, asked_ok same modelled, is) }
 
-  -- the row refuses the answer
+  -- the specification refuses the answer
   pub told_refused : {a : A} {e : P1Error} → RefinesCall old new w v call shown (Ok a) → next (shown a) ≡ Err e
       → Makes rose old w v (Direct call) next (Err e)
   told_refused {a} modelled is =

@@ -193,7 +193,7 @@ unfolding renumbered
 renumbered_fits g from to most fits =
     set_fits (record g { slots = slice_set g.slots from closed }) to _ most (set_fits g from closed most fits)
 
--- what the row of a renumbering does to them
+-- what the specification of a renumbering does to them
 pub put_renumbered : {x : Value} (g : Guest) (from to : ℕ)
     → StaysNear g (renumbering from to) [] (x, record g { slots = renumbered closed g.slots from to })
 put_renumbered g from to = record {

@@ -13,7 +13,7 @@ use Rattle.wasi_guest.specs.declared.answer.Value.{Value}
 abbrev pub Rest : List FueledCall → TraceStep → List TraceStep → State → Bool → Type 0
 Rest calls t turns new b = MatchBool b ((turns ≡ []) × (new ≡ t.after)) (Trace 0 t.after calls turns new)
 
--- a run begins with the turn of its first call's row
+-- a run begins with the turn of its first call's specification
 pub record FirstTurn (old : State) (call : FueledCall) (calls : List FueledCall) (t : TraceStep) (turns : List TraceStep)
     (new : State) : Type 0 where
   pub before : t.before ≡ old

@@ -79,7 +79,7 @@ pub io_counted : (before : FaultCount) (xs : List Answer) {now after : FaultCoun
 io_counted before xs {now} {after} {result} {a} is causes allows =
     subst (Allows before after) (sym (ios_push xs a)) (io_more before now after (ios xs) result is causes allows)
 
--- ---- a turn that was taken is one of a run: by its row, or faulted
+-- ---- a turn that was taken is one of a run: by its specification, or faulted
 
 abbrev pub turned : State → FueledCall → Answer → State → TraceStep
 turned s call answer s' = record { before = s; call = call; answer = answer; after = s' }

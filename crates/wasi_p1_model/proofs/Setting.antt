@@ -43,7 +43,7 @@ pub not_wanted : {P : Type 0} (e : HostError) → NotMemory e → error_of e ≡
 not_wanted Memory never is = absurd (never refl)
 not_wanted (Code code) never is = absurd (cc)
 
--- ---- times, which no row refuses
+-- ---- times, which no rule refuses
 
 module _ {live : Handles} {w v : HostModel} {n : ℕ} {atime mtime : Option SystemTime} {rose : Type 0} where
   pub set_ok : Resolved {A = Unit {0}} live w v (sets w.tree n atime mtime) (λ unit. unit) (Ok tt)

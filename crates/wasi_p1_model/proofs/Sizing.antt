@@ -123,7 +123,7 @@ module _ {rose : Type 0} {live : Handles} {w v : HostModel} {ns : List ℕ} wher
     | inr (reply, asked, is) ↦ absurd (cc)
   ]
 
--- ---- one look, which no row refuses
+-- ---- one look, which no rule refuses
 
 module _ {live new : Handles} {w v : HostModel} {n : ℕ} (same : new ≡ live) where
   one_sized : (result : Result Metadata HostError) → RefinesCall {A = Metadata} live new w v (Stat n) (λ m. m) result
@@ -185,7 +185,7 @@ item_among held ws i item within is n has =
     nodes_among held ws i n (subst (λ ns. Contains ns n) (sym (nodes_more held ws i item within is))
     (Contains-append_left (nodes_in (awaited_by held item.what)) (nodes_from held ws (i + 1)) n has))
 
--- the sizes so far, how the world stands then, and the nodes that were looked at
+-- the sizes so far, how the model stands then, and the nodes that were looked at
 pub record SizedSo (live : Handles) (w v : HostModel) (ws : List Waited) (i : ℕ) (sizes : List ℕ) : Type 0 where
   pub sized : Sized live w v (nodes_read (map (waited_by w.held) ws))
   pub seen : List ℕ

@@ -1,4 +1,4 @@
--- The ends of rows: what is made of what a part gives, as an answer and the guest after it.
+-- The ends of specifications: what is made of what a part gives, as an answer and the guest after it.
 use Rattle.std.proofs.Common.{ℕ, ◌+◌, List, Option}
 use Rattle.wasi_guest.specs.declared.answer.Value.{Value}
 use Rattle.wasi_guest.specs.declared.answer.Value.TheVariants.{Number, Unit as Nothing, Fdstat as Described, Filestat as RefinesCall}
@@ -14,7 +14,7 @@ use Rattle.wasi_p1_model.specs.Putting.{put_answer}
 use Rattle.wasi_p1_types.specs.CallResult.{CallResult, made_of_reply}
 use Rattle.wasi_p1_types.specs.declared.usage.Put.{Put}
 
--- of a row that asks for what has to be permitted
+-- of a specification that asks for what has to be permitted
 abbrev pub tail : {A : Type 0} → Option ErrorCode → (r : Request) → (Reply r → CallResult A) → (Guest → A → Value × Guest)
     → Guest → CallFront
 tail own r next shown g = free (permit own) >>= (λ _. ask r (made_of_reply r next (shown g)))

@@ -1,4 +1,4 @@
--- What the answer of a row is that makes something, or makes a file longer, within a guest's quotas.
+-- What the answer of a specification is that makes something, or makes a file longer, within a guest's quotas.
 use Rattle.std.proofs.Common.{ℕ, ◌≡◌, Bool, true, false, cond, refl, ap, sym, subst, ◌∙◌, Option, Some, None, Ok, Err}
 use Rattle.std.specs.Option.{option_map}
 use Rattle.wasi_fs.specs.OpenFlags.{includes}

@@ -47,7 +47,7 @@ reason is = cc
 never_ok : {x : Value} → (let r : Result Value P1Error = Ok x in r) ≡ Err Memory → ⊥
 never_ok is = absurd (cc)
 
--- a row, and the fuel that is left at its end
+-- a specification, and the fuel that is left at its end
 pub spec_same : {p q : CallResult (Program (Value × Guest)) × ℕ} → p ≡ q → p.0 ≡ q.0
 spec_same at = ap (λ (p : CallResult (Program (Value × Guest)) × ℕ). p.0) at
 
@@ -109,7 +109,7 @@ pub on_err : {H : Type 0} {modelled : Bool} {model : H → HostModel} {faults : 
     → FollowsSpec modelled model faults lookups old new before after call result
 on_err {result = result} is follows = let error = err_from_is_err_and result is in rw (error.1, error.2) follows
 
--- memory was wanted before anything was asked, where the row's front gives this
+-- memory was wanted before anything was asked, where the specification's front gives this
 wanted_by : {H : Type 0} {modelled : Bool} {model : H → HostModel} {faults : H → FaultCount} {lookups : H → List Lookup}
     {view : View H} {memory : List ℕ} {call : Call} {left : ℕ} (m : CallResult (Program (Value × Guest))) → IsTrue (may_run_out_of_memory call)
     → (m, left) ≡ front (guest_of model view memory) call view.fuel
@@ -147,7 +147,7 @@ pub wanted_late : {H : Type 0} {modelled : Bool} {model : H → HostModel} {faul
 wanted_late (done p) may at = wanted_by (Ok (done p)) may at (refl, (refl, refl))
 wanted_late (asking r next) may at = wanted_by (Ok (asking r next)) may at (inl (NoMemory, refl))
 
--- the guest's slots stay: for a host that is told, where the handles stand for the same afterwards
+-- the guest's slots stay: for a modelled host, where the handles stand for the same afterwards
 abbrev pub GuestSlotsStay : {H : Type 0} → Bool → (H → HostModel) → View H → View H → Type 0
 GuestSlotsStay modelled model old new =
     IsTrue modelled → guest_slots (model new.host).held new.slots ≡ guest_slots (model old.host).held old.slots
@@ -166,7 +166,7 @@ kept_but kept = record {
   memory = kept.memory;
 }
 
--- and the guest is settled so, over a host that tells
+-- and the guest is settled so, over a modelled host
 abbrev pub SettledAt : {H : Type 0} → (H → HostModel) → (H → FaultCount) → View H → View H → List ℕ → List ℕ → Call → P1Error
     → Type 0
 SettledAt model faults old new before after call e =
@@ -178,7 +178,7 @@ pub same_guest : {H : Type 0} {old new : View H} {before after : List ℕ} (mode
     → guest_of model new after ≡ guest_of model old before
 same_guest model kept slots = rw (slots, kept.table_max, kept.holdings, kept.memory) refl
 
--- the row without the tree, and the turn over a host that tells
+-- the specification without the tree, and the turn over a modelled host
 abbrev AtHost : {H : Type 0} → (H → HostModel) → (H → FaultCount) → (H → List Lookup) → View H → View H → List ℕ → List ℕ
     → Result Value P1Error → CallResult (Program (Value × Guest)) → Type 0
 AtHost model faults lookups old new before after result m =
@@ -227,7 +227,7 @@ put_guest {old = old} {new = new} {fd = fd} {f = f} {after = after} y held stand
       },
     )
 
--- what a reply leads to, as a row's answer
+-- what a reply leads to, as a specification's answer
 abbrev as_answer : {A : Type 0} → (A → Value × Guest) → CallResult A → CallResult (Value × Guest)
 as_answer shown m = m >>= (λ x. give (shown x))
 
@@ -284,7 +284,7 @@ module _ {H : Type 0} {modelled : Bool} {model : H → HostModel} {faults : H �
         slots = ap (λ (h : H). guest_slots (model h).held new.slots) host;
       })
 
-  -- what follows of a request's reply, as a row's answer
+  -- what follows of a request's reply, as a specification's answer
   module _ {r : Request} {A : Type 0} (next : Reply r → CallResult A) (shown : Guest → A → Value × Guest)
       (at : ask r (made_of_reply r next (shown (guest_of model old before))) new.fuel
       ≡ front (guest_of model old before) call old.fuel) where
@@ -307,7 +307,7 @@ module _ {H : Type 0} {modelled : Bool} {model : H → HostModel} {faults : H �
       near = λ is. turn_touches_near (turn is);
     }
 
-    -- the host refused, or failed, or wanted memory; or the row refused the reply
+    -- the host refused, or failed, or wanted memory; or the specification refused the reply
     pub settled_err : {e : P1Error} → IsReplied r next (Err e) → (e ≡ Memory → IsTrue (may_run_out_of_memory call))
         → KeptBut call e old new before after
         → (IsTrue modelled → SettledAt model faults old new before after call e)
@@ -327,7 +327,7 @@ module _ {H : Type 0} {modelled : Bool} {model : H → HostModel} {faults : H �
     does_err replied wants none kept slots = settled_err replied wants (kept_but kept)
         (λ modelled. turns.unused (no_use _ _ (spec_same at) none) (same_guest model kept (slots modelled)))
 
-    -- the row refused the reply
+    -- the specification refused the reply
     pub does_refused : {e : P1Error} → Follows r next (Err e) → (e ≡ Memory → IsTrue (may_run_out_of_memory call))
         → Kept old new before after → GuestSlotsStay modelled model old new
         → (IsTrue modelled → Answered (Rose (faults old.host) (faults new.host)) (model old.host) (model new.host) r next
@@ -338,7 +338,7 @@ module _ {H : Type 0} {modelled : Bool} {model : H → HostModel} {faults : H �
         turns.asked_then_err (spec_same at) (same_guest model kept (slots modelled)) asked
         (ap (as_answer (shown (guest_of model old before))) is))
 
-    -- the row answered the reply
+    -- the specification answered the reply
     pub does_ok : {y : Value} {x x' : A} → length after ≡ length before → SlotsOfCall old.slots new.slots before call
         → Follows r next (Ok x)
         → shown (guest_of model old before) x ≡ (y, guest_then model old new after)

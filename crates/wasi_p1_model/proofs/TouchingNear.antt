@@ -30,7 +30,7 @@ among_all f [] fd n named has = absurd (omega (arith, named.1))
 pub is_among_named : {g : Guest} {call : Call} {n : ℕ} → IsNamed g call n → Contains (nodes_named g call) n
 is_among_named {g} {call} {n} is = among_all (λ fd. node_in (slice_get g.slots fd)) _ is.fd n is.named is.node
 
--- a row starts from nodes that its call names
+-- a specification starts from nodes that its call names
 starts_named : (g : Guest) (call : Call) (m : CallResult (Program (Value × Guest))) → IsLocal g call m → (n : ℕ)
     → Contains (starts m) n → Contains (nodes_named g call) n
 starts_named g call (Ok (asking r next)) near n has = is_among_named (near.starts n has)

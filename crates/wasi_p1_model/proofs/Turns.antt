@@ -1,4 +1,4 @@
--- From what a request did over a told host to the turn of its call.
+-- From what a request did over a modelled host to the turn of its call.
 use Rattle.std.proofs.Common.{[], ◌≡◌, inl, inr, refl, ap, sym, ◌∙◌, subst, Result, Ok, Err}
 use Rattle.std.specs.Prelude.{is_ok, if◌then◌else◌}
 use Rattle.wasi_host.specs.Agree.{Touches}
@@ -23,7 +23,7 @@ use Rattle.wasi_host.proofs.Touching.{touches_same, no_ends}
 use Rattle.wasi_p1_model.proofs.Alike.{over, replied, spec_on}
 use Rattle.wasi_p1_model.proofs.Locality.{spec_near}
 
--- the turn of a row
+-- the turn of a specification
 abbrev SpecTurns : Type 0 → HostModel → HostModel → Guest → Guest → Guest → CallResult (Program (Value × Guest)) → Result Value P1Error
     → Type 0
 SpecTurns rose w v g g' used m result =
@@ -60,7 +60,7 @@ answered {g' = g'} {x = x} is tree touched = turns (Ok (done (x, g'))) is (
 
 -- ---- a reply
 
--- an answer that was given is the row's
+-- an answer that was given is the specification's
 given : {rose A : Type 0} {x : A} {m : CallResult A} → GivesOrElse rose (Ok x) m → m ≡ Ok x
 given (inl is) = sym is
 given (inr (inl wrong)) = absurd (cc)
@@ -75,8 +75,8 @@ same_state guest tree = λ i. record { tree = tree i; guest = guest i }
 
 -- ---- where a call isn't answered
 
--- The guest then. It stays, of a call that has no use, or where nothing was done, or at another refusal than a failure of
--- the host; or the host failed, and the use is counted
+-- The guest then. It stays, of a call that has no use, or where nothing was done, or at another refusal than a failure
+-- of the host; or the host failed, and the use is counted
 pub data Settled (rose : Type 0) (s s' : State) (used : Guest) (e : P1Error) : Type 0 where
   unused : used ≡ s.guest → s'.guest ≡ s.guest → Settled rose s s' used e
   undone : s' ≡ s → Settled rose s s' used e
@@ -95,7 +95,7 @@ module _ {rose : Type 0} {s s' : State} {used : Guest} {e : P1Error} where
   unstepped (unfailed other same) tree = still (same_state same tree)
   unstepped (counted io up is) tree = used_up io up (λ i. record { tree = tree i; guest = is i })
 
-  -- the row's refusal; or the host failed
+  -- the specification's refusal; or the host failed
   refuses : {m : CallResult (Value × State)} → m ≡ Err e → Still rose s s' used e
       → IsTransition rose (Unit {0}) used s s' (Err e) m
   refuses is (still same) = inl (record { stays = same; spec_is = is })
@@ -117,7 +117,7 @@ module _ {rose : Type 0} {s s' : State} {used : Guest} {e : P1Error} where
     abbrev is_replied : CallResult (Value × State)
     is_replied = replied s.tree r next (reply_of s.tree r)
 
-    -- a hidden step is the row's
+    -- a hidden step is the specification's
     stepped : e ≡ Errno errnos.Io → s'.tree ≡ after s.tree r → (p : Value × Guest) → Settled rose s s' used e
         → AfterFault used s s' (over (after s.tree r) (Ok p))
     stepped io tree p (unused none same) = inr (inr (λ i. record { tree = tree i; guest = (same ∙ sym none) i }))
@@ -174,7 +174,7 @@ module _ {rose : Type 0} {w v : HostModel} {g g' : Guest} {call : FueledCall} {r
     asked.touched,
   )
 
-  -- it answered, and the row refused the reply
+  -- it answered, and the specification refused the reply
   module _ {e : P1Error} {reply : Reply r} (asked : Asked rose w v r (Ok reply)) (is : next reply ≡ Err e) where
     then_refused : (v.tree ≡ w.tree → Still rose (in_model w g) (in_model v g') (used_by (in_model w g) call) e)
         → Turns rose w v g g' call (Err e)
@@ -197,7 +197,7 @@ module _ {rose : Type 0} {w v : HostModel} {g g' : Guest} {call : FueledCall} {r
     asked_err asked =
         turns (Ok (asking r next)) front (err_turns (near_at g call front) settled asked.tree asked.reply, asked.touched)
 
-    -- the host answered, and the row refused the reply
+    -- the host answered, and the specification refused the reply
     pub asked_then_settled : {reply : Reply r} → Asked rose w v r (Ok reply) → next reply ≡ Err e
         → Turns rose w v g g' call (Err e)
     asked_then_settled asked is = then_refused asked is (unstepped settled)

@@ -56,7 +56,7 @@ growth_nothing t (ListDirectory d) none = refl
 growth_nothing t (Sizes ns) none = refl
 growth_nothing t (Grow limit w) none = absurd (cc)
 
--- ---- the guest with the use of a call, whose row asks for this
+-- ---- the guest with the use of a call, whose specification asks for this
 
 module _ (s : State) (call : FueledCall) {r : Request} {next : Reply r → CallResult (Value × Guest)}
     (asks : Ok (asking r next) ≡ call_spec s.guest call) where

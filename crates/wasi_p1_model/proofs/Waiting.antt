@@ -1,4 +1,4 @@
--- From what the parts of a poll give to its row.
+-- From what the parts of a poll give to its specification.
 use Rattle.std.proofs.Common.{ℕ, ◌+◌, ◌*◌, ◌≡◌, ◌∙◌, true, false, Bool, List, [], ◌∷◌, length, map, refl, ap, sym, subst, Ok, arith}
 use Rattle.std.specs.Prelude.{◌==◌, not}
 use Rattle.wasi_host.specs.declared.open_handle.OpenHandle.{OpenHandle}
@@ -26,7 +26,7 @@ pub record IsReady (g : Guest) (subscriptions at count fuel left : ℕ) (judged 
   pub room : Ok tt ≡ room_for g.slots g.table_max (count + judged.files)
   pub later : Ok clocks ≡ clocks_at g.holdings judged.earliest
 
--- so its row is its end
+-- so its specification is its end
 pub ready_front : {g : Guest} {subscriptions at count fuel left : ℕ} {judged : Judged} {clocks : Clocks} (ws : List Waited)
     → IsReady g subscriptions at count fuel left judged clocks
     → Ok ws ≡ all_waited g.holdings g.slots g.memory subscriptions count
@@ -71,7 +71,7 @@ pub some_read : (held : ℕ → OpenHandle) (ws : List Waited) → (length (node
     → (length (nodes_read (map (waited_by held) ws)) == 0) ≡ false
 some_read held ws some = ap (λ n. n == 0) (reads_by held ws) ∙ some
 
--- ---- the ends of its row
+-- ---- the ends of its specification
 
 -- something is given
 pub look_gives : (g : Guest) (at : ℕ) (ws : List Waited) (clocks : Clocks) (ns : List ℕ) (left : ℕ)

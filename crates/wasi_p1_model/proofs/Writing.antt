@@ -28,7 +28,7 @@ use Rattle.wasi_p1_model.proofs.Bytes.{range_is}
 use Rattle.wasi_p1_model.proofs.Moving.{gave_buffer, gave}
 use Rattle.wasi_p1_model.proofs.Spending.{answer_is, gave_growing, grew_to}
 
--- a row's answer is the answer and the state after it
+-- a specification's answer is the answer and the state after it
 pub state_is : {t : Tree} {x y : Value} {g : Guest} {s' : State}
     → spec_on t (Ok (done (y, g))) ≡ Ok (x, s') → (x ≡ y) × (s' ≡ record { tree = t; guest = g })
 state_is {t} {x} {y} {g} {s'} is =

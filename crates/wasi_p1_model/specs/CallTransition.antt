@@ -41,13 +41,13 @@ abbrev pub LooksByNames : Bool → List Lookup → List Lookup → Type 0
 LooksByNames true old new = Unit {0}
 LooksByNames false old new = new ≡ old
 
--- a world and a guest, as a state
+-- a model and a guest, as a state
 abbrev pub in_model : HostModel → Guest → State
 in_model w g = record { tree = w.tree; guest = g }
 
--- The answer and the state are those of the call's row. The call touches no node but those reached from where its
--- request starts, and those made; where it is answered, it touches each at which a path of it ended, and each that stands
--- under a handle by which its row asks the host
+-- The answer and the state are those of the call's specification. The call touches no node but those reached from where
+-- its request starts, and those made; where it is answered, it touches each at which a path of it ended, and each that
+-- stands under a handle by which its specification asks the host
 pub record Turns (rose : Type 0) (w v : HostModel) (g g' : Guest) (call : FueledCall)
     (result : Result Value P1Error) : Type 0 where
   pub turn : IsTransition rose (ReachesHost (in_model w g) call) (used_by (in_model w g) call) (in_model w g) (in_model v g')
@@ -88,14 +88,14 @@ pub record Quiet {H : Type 0} (faults : H → FaultCount) (lookups : H → List 
   pub failed : faults new.host ≡ faults old.host
   pub looked : lookups new.host ≡ lookups old.host
 
--- a row that needs no tree: its answer and its guest, of a quiet host; or want of memory
+-- a specification that needs no tree: its answer and its guest, of a quiet host; or want of memory
 abbrev pub IsDone : Type 0 → Type 0 → Guest → Result Value P1Error → Value × Guest → Type 0
 IsDone same quiet g' (Ok x) p = (p ≡ (x, g')) × quiet
 IsDone same quiet g' (Err e) p = (e ≡ Memory) × same
 
--- What a row says without the tree. A refusal before it asks is the answer, and nothing changed; in the place of an error
--- number, never of a trap, memory may have been wanted.
--- Where it asks, an answer and a guest, or a refusal, are those that some reply leads to, or the host refused
+-- What a specification says without the tree. A refusal before it asks is the answer, and nothing changed; in the place
+-- of an error number, never of a trap, memory may have been wanted. Where it asks, an answer and a guest, or a refusal,
+-- are those that some reply leads to, or the host refused
 abbrev pub AtFront : Type 0 → Type 0 → Guest → Result Value P1Error → CallResult (Program (Value × Guest)) → Type 0
 AtFront same quiet g' result (Err e) = ((result ≡ Err e) ⊎ ((result ≡ Err Memory) × (is_errno e ≡ true))) × same
 AtFront same quiet g' result (Ok (done p)) = IsDone same quiet g' result p
@@ -107,11 +107,12 @@ pub record NamesUnder (perms : FsPerms) (g : Guest) (call : Call) : Type 0 where
   pub named : Contains (descriptors_named g.memory call) fd
   pub has : perms_in (slice_get g.slots fd) ≡ Some perms
 
--- What a call does to its guest, by its row. Over every host: what the row says without the tree, where each handle
--- stands for what it stood for before the call; only an answered call changes what is the guest's own, but for the use that a failed one counts; descriptors stay
--- under their numbers with their handles, but for those that the call names or closes; and the fuel is what the row
--- leaves. Over a host that tells its world: the turn, which leaves the tree, whatever it answers, where a descriptor
--- that the call names is under read-only permissions, and which touches nothing but what is near the call
+-- What a call does to its guest, by its specification. Over every host: what the specification says without the tree,
+-- where each handle stands for what it stood for before the call; only an answered call changes what is the guest's
+-- own, but for the use that a failed one counts; descriptors stay under their numbers with their handles, but for those
+-- that the call names or closes; and the fuel is what the specification leaves. Over a modelled host: the turn, which
+-- leaves the tree, whatever it answers, where a descriptor that the call names is under read-only permissions, and
+-- which touches nothing but what is near the call
 pub record FollowsSpec {H : Type 0} (modelled : Bool) (model : H → HostModel) (faults : H → FaultCount) (lookups : H → List Lookup)
     (old new : View H) (before after : List ℕ) (call : Call) (result : Result Value P1Error) : Type 0 where
   pub size : length after ≡ length before
@@ -127,7 +128,7 @@ pub record FollowsSpec {H : Type 0} (modelled : Bool) (model : H → HostModel) 
       → (model new.host).tree ≡ (model old.host).tree
   pub near : IsTrue modelled → TouchesOnlyNear (model old.host) (model new.host) (guest_of model old before) call
 
--- a call is valid where its row answers it: no refusal holds
+-- a call is valid where its specification answers it: no refusal holds
 abbrev pub IsValidCall : State → FueledCall → Type 0
 IsValidCall s call = IsTrue (is_ok (turn s call))
 

@@ -1,4 +1,4 @@
--- The calls: their rows, a file a family, and what they say by their arguments.
+-- The calls: their specifications, a file a family, and what they say by their arguments.
 use Rattle.std.specs.Prelude.{ℕ, Bool, true, false, List, [], ◌∷◌}
 use Rattle.wasi_guest.specs.declared.answer.Value.{Value}
 use Rattle.wasi_guest.specs.declared.call.Call.{Call}
@@ -28,7 +28,7 @@ unfoldable pub use Services.*
 unfoldable pub use Listing.*
 unfoldable pub use Polling.*
 
--- the front of a call's row
+-- the front of a call's specification
 abbrev pub front : Guest → Call → CallFront
 front g (calls.ArgsGet argv argv_buf) = args_get g argv argv_buf
 front g calls.ArgsSizesGet = args_sizes_get g
@@ -82,7 +82,7 @@ front g (calls.SockRecv fd iovs iovs_len ri_flags) = sock_recv g fd iovs iovs_le
 front g (calls.SockSend fd iovs iovs_len si_flags) = sock_send g fd iovs iovs_len si_flags
 front g (calls.SockShutdown fd how) = sock_shutdown g fd how
 
--- the row of a call, and the fuel that is left at its end
+-- the specification of a call, and the fuel that is left at its end
 abbrev pub call_spec : Guest → FueledCall → CallResult (Program (Value × Guest))
 call_spec g call = (front g call.call call.fuel).0
 
@@ -141,8 +141,8 @@ closed_by (calls.FdClose fd) = fd ∷ []
 closed_by (calls.FdRenumber from to) = from ∷ to ∷ []
 closed_by call = []
 
--- how the descriptors after a call that is answered stem from those before it: each from itself; or what was opened from
--- the directory through which it was; or what stands under one number from what stood under another
+-- how the descriptors after a call that is answered stem from those before it: each from itself; or what was opened
+-- from the directory through which it was; or what stands under one number from what stood under another
 pub data Stem : Type 0 where
   itself : Stem
   through : ℕ → Stem

@@ -14,7 +14,8 @@ use Rattle.wasi_p1_types.specs.declared.error.P1Error.{P1Error}
 use Rattle.wasi_p1_types.specs.declared.slots.Slot.{Slot}
 use Rattle.wasi_p1_types.specs.declared.error.P1Error.TheVariants.{Memory}
 
--- one call with this fuel, from a context and a memory to those after it: it does its row, and stays in its bounds
+-- one call with this fuel, from a context and a memory to those after it: it does its specification, and stays in its
+-- bounds
 pub record DoesCall {H : Type 0} (host : Ghosts H) (fuel : ℕ) (old new : View H) (before after : List ℕ) (call : Call)
     (result : Result Value P1Error) : Type 0 where
   pub call_spec : MeetsSpec host (record old { fuel = fuel }) new before after call result
@@ -47,8 +48,8 @@ WantsFrom host fuel old before calls n new after =
     ((call : Call) × (slice_get calls n ≡ Some call) × DoesCall host fuel old new before after call (Err Memory))
     ⊎ ((n ≡ 0) × (new ≡ old) × (after ≡ before))
 
--- The first n calls were answered, none of them so that it ends the run, and then memory was wanted: all stands as after
--- these
+-- The first n calls were answered, none of them so that it ends the run, and then memory was wanted: all stands as
+-- after these
 pub record DoCallsUntil {H : Type 0} (host : Ghosts H) (fuel : ℕ) (old : View H) (before : List ℕ) (calls : List Call)
     (n : ℕ) (new : View H) (after : List ℕ) : Type 0 where
   pub answers : List Answer

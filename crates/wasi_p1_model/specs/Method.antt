@@ -8,9 +8,9 @@ use Rattle.wasi_p1_model.specs.Calls.{looks_up}
 use Rattle.wasi_p1_types.specs.Slots.{View}
 use Rattle.wasi_p1_types.specs.declared.error.P1Error.{P1Error}
 
--- whatever its row: the host fails only where its count of faults rises, the live handles that belong to no descriptor
--- stay, and look-ups begin from the descriptors that the call names; a call without a path that lists no directory makes
--- none
+-- whatever its specification: the host fails only where its count of faults rises, the live handles that belong to no
+-- descriptor stay, and look-ups begin from the descriptors that the call names; a call without a path that lists no
+-- directory makes none
 pub record KeepsHostLaws {H : Type 0} (host : Ghosts H) (old new : View H) (memory : List ℕ) (call : Call)
     (result : Result Value P1Error) : Type 0 where
   pub cause : Causes (host.faults old.host) (host.faults new.host) result
@@ -18,7 +18,7 @@ pub record KeepsHostLaws {H : Type 0} (host : Ghosts H) (old new : View H) (memo
   pub provenance : Looks host.lookups old new memory call
   pub logged : LooksByNames (looks_up call) (host.lookups old.host) (host.lookups new.host)
 
--- from a context and a memory to those after it, by its row
+-- from a context and a memory to those after it, by its specification
 abbrev pub MeetsSpec : {H : Type 0} → Ghosts H → View H → View H → List ℕ → List ℕ → Call → Result Value P1Error
     → Type 0
 MeetsSpec host old new before after call result =

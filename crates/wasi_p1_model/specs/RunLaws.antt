@@ -21,7 +21,8 @@ RunsAreFunctions =
     → Trace 0 old calls turns' new'
     → (turns ≡ turns') × (new ≡ new')
 
--- a call that does its row, as each method does, is answered where it is valid, unless the host's count rose in it
+-- a call that does its specification, as each method does, is answered where it is valid, unless the host's count rose
+-- in it
 abbrev pub SpecsAreComplete : {H : Type 0} → Ghosts H → Type 0
 SpecsAreComplete {H} host =
     (old new : View H) (before after : List ℕ) (call : Call) (result : Result Value P1Error)
@@ -41,7 +42,7 @@ OtherErrorsNeverCome =
     (k : ℕ) (old new : State) (calls : List FueledCall) (turns : List TraceStep) → Trace k old calls turns new
     → All MayCome (answers_of turns)
 
--- each turn over a told host keeps what was come to in reach of the start
+-- each turn over a modelled host keeps what was come to in reach of the start
 abbrev pub TurnsAreConfined : {H : Type 0} → (H → HostModel) → Type 0
 TurnsAreConfined {H} model =
     (start : State) (old new : View H) (before after : List ℕ) (call : FueledCall) (result : Result Value P1Error)

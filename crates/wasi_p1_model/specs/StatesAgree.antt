@@ -10,8 +10,8 @@ use Rattle.wasi_p1_types.specs.Front.{FueledCall}
 use Rattle.wasi_guest.specs.declared.answer.Answer.{Answer}
 use Rattle.wasi_guest.specs.declared.answer.Value.{Value}
 
--- Two states that differ only where the guest can't come to: all but the tree is equal, and the trees have the same next
--- number, the same limits, and equal nodes on what is in reach in the first
+-- Two states that differ only where the guest can't come to: all but the tree is equal, and the trees have the same
+-- next number, the same limits, and equal nodes on what is in reach in the first
 pub record Agrees (s s' : State) : Type 0 where
   pub guest : s.guest ≡ s'.guest
   pub trees : AgreeOn (Inside s) s.tree s'.tree
@@ -27,7 +27,7 @@ pub record Alike (Seen : ℕ → Type 0) (s s' : State) : Type 0 where
   pub closed : IsClosed Seen s.tree
   pub slots : (n : ℕ) → Contains (open_nodes s.guest.slots) n → Seen n
 
--- two rows with the same answer, and states after them that are alike
+-- two specifications with the same answer, and states after them that are alike
 abbrev pub AnswerAlike : (ℕ → Type 0) → State → CallResult (Value × State) → CallResult (Value × State) → Type 0
 AnswerAlike Seen s (Ok p) (Ok q) = (p.0 ≡ q.0) × Alike (OrMade Seen s.tree p.1.tree) p.1 q.1
 AnswerAlike Seen s (Err e) (Err f) = e ≡ f
@@ -40,8 +40,8 @@ TurnsAgree =
     (s s' : State) (call : FueledCall) → Agrees s s' → AnswerAlike (Inside s) s (turn s call) (turn s' call)
 
 -- From another state the run of the calls with no faulted turn gives these answers, and ends with the same guest, its
--- memory and its outputs among it, and with a tree that has the same next number, the same limits, and equal nodes on what
--- was in reach at the start or was made
+-- memory and its outputs among it, and with a tree that has the same next number, the same limits, and equal nodes on
+-- what was in reach at the start or was made
 pub record RunsSame (old other : State) (calls : List FueledCall) (answers : List Answer) (new : State) : Type 0 where
   pub turns : List TraceStep
   pub last : State

@@ -50,17 +50,17 @@ pub record TraceStep : Type 0 where
   pub answer : Answer
   pub after : State
 
--- the answer of a row in a state, and the state after it
+-- the answer of a specification in a state, and the state after it
 abbrev pub Gives : CallResult (Value × State) → State → Answer → State → Type 0
 Gives (Ok p) old answer new = (answer ≡ answers.Ok p.0) × (new ≡ p.1)
 Gives (Err e) old answer new = (answer_of (Err e) ≡ Some answer) × (new ≡ old)
 
--- the call is answered by its row
+-- the call is answered by its specification
 abbrev pub Played : TraceStep → Type 0
 Played t = Gives (turn t.before t.call) t.before t.answer t.after
 
 -- the host failed in a call that came to it: the answer is `io`, and the state is the one before; or that with the use
--- of the call counted, and perhaps with the row's one step
+-- of the call counted, and perhaps with the specification's one step
 pub record Faulted (t : TraceStep) : Type 0 where
   pub came : ReachesHost t.before t.call
   pub io : t.answer ≡ answers.Errno Io

@@ -1,4 +1,4 @@
--- What a call did, against its row.
+-- What a call did, against its specification.
 use Rattle.std.specs.Prelude.{ℕ, List, ◌≡◌, ◌⊎◌, Result, Ok, Err}
 use Rattle.wasi_p1_types.specs.Guest.{Guest, State}
 use Rattle.wasi_p1_types.specs.CallResult.{CallResult, Asks, starts, request_ends, request_comes}
@@ -10,7 +10,7 @@ use Rattle.wasi_p1_types.specs.declared.error.P1Error.{P1Error}
 use Rattle.wasi_p1_types.specs.declared.error.P1Error.TheVariants.{Errno, Memory}
 use Rattle.wasi_guest.specs.declared.answer.Value.{Value}
 
--- the answer is the row's first refusal, and the state stays
+-- the answer is the specification's first refusal, and the state stays
 pub record SpecRefuses (before after : State) (e : P1Error) (call_spec : CallResult (Value × State)) : Type 0 where
   pub stays : after ≡ before
   pub spec_is : call_spec ≡ Err e
@@ -26,18 +26,18 @@ abbrev pub used_by : State → FueledCall → Guest
 used_by s call =
     record s.guest { holdings = spent (makes call.call) (growth_of s.tree (call_spec s.guest call)) s.guest.holdings }
 
--- the one step that the row makes in the tree, beside the guest with its use
+-- the one step that the specification makes in the tree, beside the guest with its use
 abbrev pub StepTaken : Guest → State → CallResult (Value × State) → Type 0
 StepTaken used after (Ok p) = after ≡ record { tree = p.1.tree; guest = used }
 StepTaken used after (Err e) = ⊥
 
--- a faulted call leaves the state; or the state but for the use, which is counted; or it takes the row's one step and
--- counts the use
+-- a faulted call leaves the state; or the state but for the use, which is counted; or it takes the specification's one
+-- step and counts the use
 abbrev pub AfterFault : Guest → State → State → CallResult (Value × State) → Type 0
 AfterFault used before after call_spec =
     (after ≡ before) ⊎ ((after ≡ record before { guest = used }) ⊎ StepTaken used after call_spec)
 
--- the host failed where the row comes to it
+-- the host failed where the specification comes to it
 pub record Faults (rose reaches : Type 0) (used : Guest) (before after : State) (e : P1Error)
     (call_spec : CallResult (Value × State)) : Type 0 where
   pub io : e ≡ Errno errnos.Io
@@ -45,13 +45,13 @@ pub record Faults (rose reaches : Type 0) (used : Guest) (before after : State) 
   pub came : reaches
   pub state : AfterFault used before after call_spec
 
--- the answer and the state after it are the row's; or memory was wanted; or the host failed
+-- the answer and the state after it are the specification's; or memory was wanted; or the host failed
 abbrev pub IsTransition : Type 0 → Type 0 → Guest → State → State → Result Value P1Error → CallResult (Value × State) → Type 0
 IsTransition rose reaches used before after (Ok x) call_spec = call_spec ≡ Ok (x, after)
 IsTransition rose reaches used before after (Err e) call_spec =
     SpecRefuses before after e call_spec ⊎ (Wants before after e ⊎ Faults rose reaches used before after e call_spec)
 
--- no refusal of the row stands before its request
+-- no refusal of the specification stands before its request
 abbrev pub ReachesHost : State → FueledCall → Type 0
 ReachesHost s call = Asks (call_spec s.guest call)
 

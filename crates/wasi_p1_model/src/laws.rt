@@ -25,14 +25,15 @@ pub fn runs_are_functions()
     ensures one_run { RunsAreFunctions }
 {}
 
-/// What a method's clause `spec` says makes it complete: a call that is valid in the state before it, where its row
-/// answers it, is answered, unless the host's count of faults rose in it, or memory was wanted by a call that takes some.
+/// What a method's clause `spec` says makes it complete: a call that is valid in the state before it, where its
+/// specification answers it, is answered, unless the host's count of faults rose in it, or memory was wanted by a call
+/// that takes some.
 pub fn methods_are_complete<H: Host>()
     ensures complete { SpecsAreComplete H.Host }
 {}
 
-/// A call of a run that is valid in the state before it, where its row answers it, is answered Ok, unless the host failed
-/// in it.
+/// A call of a run that is valid in the state before it, where its specification answers it, is answered Ok, unless the
+/// host failed in it.
 pub fn valid_calls_are_answered()
     ensures complete { RunsAreComplete }
 {}
@@ -50,8 +51,8 @@ pub fn turns_are_confined<H: Host>()
     ensures confined { TurnsAreConfined H.model }
 {}
 
-/// Calls answer the same, and do the same to what is in reach, from two states that differ only where the guest can't come
-/// to; and the same is in reach in two such states.
+/// Calls answer the same, and do the same to what is in reach, from two states that differ only where the guest can't
+/// come to; and the same is in reach in two such states.
 pub fn runs_agree()
     ensures agree { RunsAgree }
     ensures reach { ReachIsOne }
@@ -80,43 +81,43 @@ pub fn read_only_runs_leave_the_tree()
     ensures leave { ReadOnlyRunsLeaveTheTree }
 {}
 
-/// A turn that names a descriptor under append-only permissions takes no step but one that adds, whatever it answers, and
-/// where the host failed too: it makes a file, a directory or a link, or adds a name, in a directory where that name was
-/// free; or it puts bytes at a file's end. It is so of a guest whose files under append-only permissions are in append
-/// mode, as `path_open` opens them and `fd_fdstat_set_flags` keeps them.
+/// A turn that names a descriptor under append-only permissions takes no step but one that adds, whatever it answers,
+/// and where the host failed too: it makes a file, a directory or a link, or adds a name, in a directory where that
+/// name was free; or it puts bytes at a file's end. It is so of a guest whose files under append-only permissions are
+/// in append mode, as `path_open` opens them and `fd_fdstat_set_flags` keeps them.
 pub fn append_only_turns_add()
     ensures add { AppendOnlyTurnsAdd }
 {}
 
-/// Whatever a guest calls that may alter nothing, as its directories are append-only or read-only, and however often the
-/// host fails: each name that was there leads to the node that it led to, each file's bytes at the start are the beginning
-/// of its bytes at the end, each link has its text, and no bits or times changed; what was made has those of its making.
-/// Where a guest may alter something too, it is so of each node that isn't reached from a read-write directory or file, of
-/// a valid tree. No directory may be reached from there that is reached from an append-only one: a link made through the
-/// second would give a file to the first.
+/// Whatever a guest calls that may alter nothing, as its directories are append-only or read-only, and however often
+/// the host fails: each name that was there leads to the node that it led to, each file's bytes at the start are the
+/// beginning of its bytes at the end, each link has its text, and no bits or times changed; what was made has those of
+/// its making. Where a guest may alter something too, it is so of each node that isn't reached from a read-write
+/// directory or file, of a valid tree. No directory may be reached from there that is reached from an append-only one:
+/// a link made through the second would give a file to the first.
 pub fn append_only_runs_keep()
     ensures appends { AppendingStays }
     ensures grows { RunsOnlyGrow }
     ensures apart { RunsKeepWhatIsApart }
 {}
 
-/// The nodes that a run makes are at most those that the quota of makings leaves at its start. The bytes by which it makes
-/// files longer are at most those that the quota of grown bytes leaves. It is so whatever the guest calls, and however
-/// often the host fails, of a guest whose files are written as they were opened, as `path_open` opens them and each call
-/// keeps them.
+/// The nodes that a run makes are at most those that the quota of makings leaves at its start. The bytes by which it
+/// makes files longer are at most those that the quota of grown bytes leaves. It is so whatever the guest calls, and
+/// however often the host fails, of a guest whose files are written as they were opened, as `path_open` opens them and
+/// each call keeps them.
 pub fn runs_stay_within_quotas()
     ensures opened { OpenedStays }
     ensures within { RunsStayWithinQuotas }
 {}
 
-/// Each call that is answered Ok counts what it makes and grows, and one that is refused counts nothing; one in which the
-/// host failed does either. The quota stays.
+/// Each call that is answered Ok counts what it makes and grows, and one that is refused counts nothing; one in which
+/// the host failed does either. The quota stays.
 pub fn quotas_are_counted()
     ensures counted { QuotasAreCounted }
 {}
 
-/// The live and the closed descriptor numbers together are those below a number, which is never above how many descriptors
-/// may be live, and a new descriptor takes the largest closed one.
+/// The live and the closed descriptor numbers together are those below a number, which is never above how many
+/// descriptors may be live, and a new descriptor takes the largest closed one.
 pub fn descriptor_numbers()
     ensures dense { NumbersAreDense }
     ensures largest { OpensTheLargestClosed }
@@ -156,11 +157,11 @@ pub fn writes_are_whole()
     ensures whole { WritesAreWhole }
 {}
 
-/// A byte that `fd_pwrite` put is the one that a later `fd_pread` gives for that offset, until it is changed. The write is
-/// by a descriptor that isn't in append mode. It puts its first buffer that has bytes whole into the file, from the offset
-/// on. Where the file is held, as the files of a context are over a host that tells, each byte stands there then. The read
-/// may be by another descriptor of the file. It puts the bytes from its offset on into its first buffer that has bytes, as
-/// many as it takes and no more than 65,536. Neither changes anything else.
+/// A byte that `fd_pwrite` put is the one that a later `fd_pread` gives for that offset, until it is changed. The write
+/// is by a descriptor that isn't in append mode. It puts its first buffer that has bytes whole into the file, from the
+/// offset on. Where the file is held, as the files of a context are over a modelled host, each byte stands there then.
+/// The read may be by another descriptor of the file. It puts the bytes from its offset on into its first buffer that
+/// has bytes, as many as it takes and no more than 65,536. Neither changes anything else.
 pub fn bytes_put_are_got()
     ensures put { BytesArePut }
     ensures held { FilesAreHeld }

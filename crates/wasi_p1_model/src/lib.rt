@@ -1,5 +1,5 @@
-//! What each call of `wasi_snapshot_preview1` answers and does, as a table of specifications over the states of a guest; what a
-//! call leaves over any host; runs of calls; and the laws of all these. Nothing in it runs: each function of it is a law, whose
+//! What each call of `wasi_snapshot_preview1` answers and does, as specifications over the states of a guest; what a call
+//! leaves over any host; runs of calls; and the laws of all these. Nothing in it runs: each function of it is a law, whose
 //! contract says it.
 #![tactic(auto)]
 

@@ -36,7 +36,7 @@ use Rattle.wasi_p1_model.proofs.SpecEnds.{tail, with_nothing}
 use Rattle.wasi_p1_model.proofs.Staying.{all_stay}
 use Rattle.wasi_p1_model.proofs.Taking.{Did, GuestSlotsStay, refused_at}
 
--- what the check refused, the row refuses
+-- what the check refused, the specification refuses
 made_refused : {A : Type 0} {e : P1Error} {fuel : ℕ} (b : Bool) (own : Option ErrorCode) (r : Request)
     (next : Reply r → CallResult A) (shown : Guest → A → Value × Guest) (g : Guest) → check_to_make b own g.holdings ≡ Err e
     → making b g (tail own r next shown g) fuel ≡ (Err e, fuel)

@@ -49,7 +49,7 @@ pub fn open_into<H: Host>(
     ensures provenance { SlotsTraced (Only dir.dir) descriptors.old.slots descriptors.new.slots
         (H.lookups fs.old.host) (H.lookups fs.new.host) }
 
-    // The row, over every host and over one that tells its world.
+    // The specification, over every host and over a modelled one.
     ensures permit { Refused (may_open (how_named with.path_flags with.open_flags with.flags) dir.perms)
         (with_after result (guest_slots (H.model fs.old.host).held descriptors.new.slots)) fs.old.host fs.new.host }
     ensures front { may_open (how_named with.path_flags with.open_flags with.flags) dir.perms ≡ None → IsReplied

@@ -18,8 +18,8 @@ use Rattle.wasi_p2_types.specs.Stats.{hash_named, stat_named}
 use Rattle.wasi_p2_types.specs.declared.descriptor_stat.DescriptorType.{DescriptorType}
 use Rattle.wasi_p2_types.specs.declared.descriptor_stat.DescriptorType.TheVariants as types
 
--- What a part makes of the reply to its look, for which it takes no memory: over every host, and over one that tells its
--- world
+-- What a part makes of the reply to its look, for which it takes no memory: over every host, and over one that tells
+-- its model
 pub record LookMakes {H A : Type 0} (host : Ghosts H) (old new : H) (r : Request) (next : Reply r → CallResult A)
     (result : CallResult A) : Type 0 where
   pub never_wants : IfErr result WantsNoMemory

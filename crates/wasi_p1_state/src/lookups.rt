@@ -19,7 +19,8 @@ use wasi_fs::{Descriptor, Dir, File};
 use wasi_guest::{Errno, TrapKind};
 use wasi_host::Host;
 use wasi_p1_types::{
-    DirectorySlot, FileModes, FileSlot, FileUse, Output, P1Error, WriteTarget, Slot, ReadTarget, Stream,
+    DirectorySlot, FileModes, FileSlot, FileUse, Output, P1Error, ReadTarget, Slot, Stream,
+    WriteTarget,
 };
 
 /// What a live number stands for.
@@ -92,7 +93,11 @@ pub fn descriptor_at<H: Host>(
 
 /// What is read by a number: Badf where that is neither a file's nor the standard input's.
 #[tactic(auto, using(wasi_p1_model::proofs::SlotRules::slots))]
-pub fn read_target_at<H: Host>(host: &H, descriptors: &Descriptors, fd: u32) -> Result<ReadTarget, P1Error>
+pub fn read_target_at<H: Host>(
+    host: &H,
+    descriptors: &Descriptors,
+    fd: u32,
+) -> Result<ReadTarget, P1Error>
     requires owned { Owned (H.live host.now) (handles descriptors.now.slots) }
     ensures live { IfOk result (OfReadTarget (λ file. contains (H.live host.now) file.file.file ≡ true)) }
     ensures is { IfOk result (OfReadTarget (λ file. slice_get descriptors.now.slots fd ≡ Some (Slot.File file))) }
@@ -114,7 +119,11 @@ pub fn read_target_at<H: Host>(host: &H, descriptors: &Descriptors, fd: u32) -> 
 
 /// What is written by a number: Badf where that is neither a file's nor an output's.
 #[tactic(auto, using(wasi_p1_model::proofs::SlotRules::slots))]
-pub fn write_target_at<H: Host>(host: &H, descriptors: &Descriptors, fd: u32) -> Result<WriteTarget, P1Error>
+pub fn write_target_at<H: Host>(
+    host: &H,
+    descriptors: &Descriptors,
+    fd: u32,
+) -> Result<WriteTarget, P1Error>
     requires owned { Owned (H.live host.now) (handles descriptors.now.slots) }
     ensures live { IfOk result (OfWriteTarget (λ file. contains (H.live host.now) file.file.file ≡ true)) }
     ensures is { IfOk result (OfWriteTarget (λ file. slice_get descriptors.now.slots fd ≡ Some (Slot.File file))) }

@@ -36,7 +36,7 @@ IsKnown code = IsTrue (is_known code)
 abbrev pub Knows : {A : Type 0} → Result A ErrorCode → Type 0
 Knows m = IfErr m IsKnown
 
--- ---- rows
+-- ---- rules
 
 abbrev all_known : List (Bool × ErrorCode) → Bool
 all_known [] = true

@@ -1,4 +1,4 @@
--- No part of a row is refused because memory was wanted, nor by an error number that no call is answered.
+-- No part of a specification is refused because memory was wanted, nor by an error number that no call is answered.
 use Rattle.std.proofs.Common.{refl, ◌≡◌, ◌+◌, ◌*◌, ◌/◌, ◌^◌, ◌%◌, take, [], ◌∷◌, nat_lt, nat_le, length, ℕ, true, false, cond, Bool, List, Option, Some, None, Ok, Err}
 use Rattle.std.specs.Prelude.{◌==◌, not, ◌&&◌, ◌||◌, ℤ, pos, negsuc, ◌+ℤ◌, IfErr, IfSome, IsTrue}
 use Rattle.wasi_fs.specs.Calls.{may_do, may_link, may_add_name, may_rename}
@@ -47,7 +47,7 @@ use Rattle.wasi_p1_types.specs.ErrorNumbers.{may_be_answered}
 use Rattle.wasi_p1_types.proofs.Codes.{IsKnown, first_known}
 use Rattle.wasi_p1_types.specs.declared.slots.FileModes.{FileModes}
 
--- what a row refuses with: an error number that a call may be answered, a trap, or the guest's own end
+-- what a specification refuses with: an error number that a call may be answered, a trap, or the guest's own end
 abbrev pub IsRefusal : P1Error → Type 0
 IsRefusal (Errno e) = IsTrue (may_be_answered e)
 IsRefusal (Trap kind) = Unit {0}

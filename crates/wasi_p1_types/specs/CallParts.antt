@@ -1,4 +1,4 @@
--- What the parts of a call give, in the words of its row.
+-- What the parts of a call give, in the words of its specification.
 use Rattle.std.specs.Prelude.{◌≡◌, ◌⊎◌, ℕ, Bool, true, false, List, length, Option, Some, None, Ok, Err}
 use Rattle.std.specs.FinSet.{contains}
 use Rattle.wasi_fs.specs.Calls.{opens, handle_of, perms_of}

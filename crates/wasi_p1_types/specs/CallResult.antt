@@ -1,4 +1,4 @@
--- What a row is: refusals in order, then an answer, or one request and what follows from its reply.
+-- What a specification is: refusals in order, then an answer, or one request and what follows from its reply.
 use Rattle.std.specs.Prelude.{ℕ, List, [], Result, Ok, Err}
 use Rattle.wasi_host.specs.Tree.{Tree}
 use Rattle.wasi_host.specs.declared.errors.ErrorCode.{ErrorCode}
@@ -10,7 +10,7 @@ use Rattle.wasi_p1_types.specs.Request.{Request, Reply, reply_of, after, starts_
 use Rattle.wasi_p1_types.specs.declared.error.P1Error.{P1Error}
 use Rattle.wasi_p1_types.specs.declared.error.P1Error.TheVariants.{Errno}
 
--- a part of a row: what it gives, or the first refusal
+-- a part of a specification: what it gives, or the first refusal
 abbrev pub CallResult : Type 0 → Type 0
 CallResult A = Result A P1Error
 
@@ -45,7 +45,7 @@ made_of_reply r next shown reply = next reply >>= (λ x. give (shown x))
 abbrev pub with_tree : (Value × Guest) × Tree → Value × State
 with_tree p = (p.0.0, record { tree = p.1; guest = p.0.1 })
 
--- a row over a tree
+-- a specification over a tree
 abbrev pub spec_on : Tree → CallResult (Program (Value × Guest)) → CallResult (Value × State)
 spec_on t m = m >>= run_on t >>= (λ p. give (with_tree p))
 

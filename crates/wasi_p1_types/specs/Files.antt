@@ -1,4 +1,4 @@
--- What the rows of the calls on files and on preopens are made of.
+-- What the specifications of the calls on files and on preopens are made of.
 use Rattle.std.specs.Prelude.{ℕ, ◌^◌, not, ◌&&◌, ◌||◌, nat_lt, List, length, slice_get, if◌then◌else◌, ℤ, pos, negsuc, ◌+ℤ◌, Option, Some, None, Ok, Err}
 use Rattle.wasi_guest.specs.Flags as flag
 use Rattle.wasi_guest.specs.Flags.{has}

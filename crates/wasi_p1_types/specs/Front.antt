@@ -1,4 +1,4 @@
--- The front of a row: refusals in order, some of which take fuel.
+-- The front of a specification: refusals in order, some of which take fuel.
 use Rattle.std.specs.Prelude.{ℕ, ◌-◌, ◌*◌, nat_le, List, slice_get, if◌then◌else◌, Option, Some, None, Ok, Err}
 use Rattle.wasi_host.specs.declared.errors.ErrorCode.{ErrorCode}
 use Rattle.wasi_guest.specs.Iovec.{first_buffer}
@@ -46,15 +46,15 @@ CallFront = Front (Program (Value × Guest))
 unfoldable pub charge : ℕ → Front (Unit {0})
 charge n = λ fuel. if nat_le n fuel then (Ok tt, fuel - n) else (Err (Errno errnos.Nomem), fuel)
 
--- the end of a row that needs no tree
+-- the end of a specification that needs no tree
 abbrev pub answer : {A : Type 0} → A → Front (Program A)
 answer x = free (give (done x))
 
--- the end of a row that asks the tree
+-- the end of a specification that asks the tree
 abbrev pub ask : {A : Type 0} → (r : Request) → (Reply r → CallResult A) → Front (Program A)
 ask r next = free (give (asking r next))
 
--- the end of a row that asks the tree only where something isn't known of which the answer is made
+-- the end of a specification that asks the tree only where something isn't known of which the answer is made
 abbrev pub known_or_asked : {A B : Type 0} → Option B → (B → CallResult A) → (r : Request) → (Reply r → CallResult A)
     → (A → Value × Guest) → CallFront
 known_or_asked (Some known) part r next shown = do
@@ -97,14 +97,14 @@ at_buffer g named iovs n next = do
   bytes ← free (range g.memory buffer.buf buffer.buf_len)
   next what buffer bytes
 
--- the end of a row that changes nothing: the answer is made of what a part gives
+-- the end of a specification that changes nothing: the answer is made of what a part gives
 abbrev pub tells : {A : Type 0} → Guest → CallResult A → (A → Value) → CallFront
 tells g part shown = do
   x ← free part
   answer (shown x, g)
 
--- The end of a row that answers nothing but that it was done: what isn't permitted is refused, and then as the request
--- is
+-- The end of a specification that answers nothing but that it was done: what isn't permitted is refused, and then as
+-- the request is
 abbrev pub done_if : Option ErrorCode → Request → Guest → CallFront
 done_if own r g = do
   _ ← free (permit own)

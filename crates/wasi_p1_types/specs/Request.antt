@@ -1,4 +1,4 @@
--- The ways in which a row reads or changes the tree.
+-- The ways in which a specification reads or changes the tree.
 use Rattle.std.specs.Prelude.{◌≡◌, ℕ, ◌<◌, ◌≤◌, Bool, true, false, IsTrue, List, [], ◌∷◌, length, Result, Ok, Err, Option, Some, None, map, if◌then◌else◌}
 use Rattle.wasi_paths.specs.Parts.{has_root}
 use Rattle.wasi_host.specs.Tree.{Tree}
@@ -51,8 +51,8 @@ MayFind (AtEntry s text ReadLink) link =
     (0 < length link) × (length link ≤ longest_link) × (has_root link ≡ false)
 MayFind p found = Unit {0}
 
--- what a host may answer, whatever the tree: a read gives no more bytes than were asked for, and a write takes some of a
--- piece that has any
+-- what a host may answer, whatever the tree: a read gives no more bytes than were asked for, and a write takes some of
+-- a piece that has any
 abbrev pub MayAnswer : (call : HostCall) → HostAnswer call → Type 0
 MayAnswer (Pread f offset n) bytes = length bytes ≤ n
 MayAnswer (Pwrite f offset piece) count = (count ≤ length piece) × (0 < length piece → 0 < count)

@@ -1,4 +1,4 @@
--- What the rows of the calls are made of.
+-- What the specifications of the calls are made of.
 use Rattle.std.specs.Prelude.{ℕ, ◌+◌, nat_le, List, length, slice_range, slice_set, if◌then◌else◌, Ok, Err, Option, Some, None}
 use Rattle.wasi_fs.specs.Perms.{is_read_only}
 use Rattle.wasi_fs.specs.declared.open_mode.OpenMode.{OpenMode}

@@ -1,4 +1,4 @@
--- How the rows of the calls that make something, or make a file longer, keep to a guest's quotas.
+-- How the specifications of the calls that make something, or make a file longer, keep to a guest's quotas.
 use Rattle.std.specs.Prelude.{ℕ, Bool, true, false, not, ◌&&◌, Option, Some, None, Ok, Err, if◌then◌else◌}
 use Rattle.wasi_guest.specs.Flags as flag
 use Rattle.wasi_guest.specs.Flags.{has}
@@ -35,7 +35,8 @@ check_to_make makes own s = permit own >>= (λ _. if makes then may_make s else 
 abbrev pub with_making : Value × Guest → Value × Guest
 with_making p = (p.0, record p.1 { holdings = counted_making p.1.holdings })
 
--- a row that makes something: right before its request it is refused where no making is left, and an answer is counted
+-- a specification that makes something: right before its request it is refused where no making is left, and an answer
+-- is counted
 abbrev pub made_by : Bool → Guest → CallResult (Program (Value × Guest)) → CallResult (Program (Value × Guest))
 made_by false g call_spec = call_spec
 made_by true g (Ok (asking r next)) =
@@ -70,7 +71,7 @@ grown_in None w reply = Ok (0, reply)
 grown_in (Some limit) w (Some grown) = Ok grown
 grown_in (Some limit) w None = Err (Errno errnos.Dquot)
 
--- a row that writes a file or gives it a size, so bounded: an answer is counted
+-- a specification that writes a file or gives it a size, so bounded: an answer is counted
 abbrev pub grown_by : Option Allowance → CallResult (Program (Value × Guest)) → CallResult (Program (Value × Guest))
 grown_by limit (Ok (asking w next)) = Ok (asking (grow_request limit w) (λ reply.
     grown_in limit w reply >>= (λ grown. next grown.1 >>= (λ p. give (with_growth grown.0 p)))))
@@ -89,7 +90,7 @@ makes (calls.PathSymlink _ _ _ _ _) = true
 makes (calls.PathOpen _ _ _ _ oflags _ _ _) = has oflags flag.creat
 makes call = false
 
--- the growth of a row: that of its request
+-- the growth of a specification: that of its request
 abbrev pub growth_of : Tree → CallResult (Program (Value × Guest)) → ℕ
 growth_of t (Ok (asking r next)) = growth_in t r
 growth_of t (Ok (done p)) = 0
@@ -100,7 +101,7 @@ abbrev pub grows : Request → Bool
 grows (Grow limit w) = true
 grows r = false
 
--- a call has no use, where its row asks for this
+-- a call has no use, where its specification asks for this
 abbrev pub spends_nothing : Call → Request → Bool
 spends_nothing call r = not (makes call) && not (grows r)
 

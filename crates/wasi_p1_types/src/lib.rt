@@ -30,4 +30,4 @@ pub use raw_numbers::{
     INVALID, advice_of, exit_with, fdflags_of, known_signal, rights_of, whence_of,
 };
 pub use slots::{DirectorySlot, FileModes, FileSlot, P1Preopen, Slot, Stream};
-pub use usage::{FileUse, Put, WriteTarget, ReadTarget};
+pub use usage::{FileUse, Put, ReadTarget, WriteTarget};

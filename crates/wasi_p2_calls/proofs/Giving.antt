@@ -289,7 +289,7 @@ rest_given {H} {host} {old} {mid} {new} {table} {there} {now} {p} {m} {ms} ps li
 
 -- ---- a `dup` that is refused
 
--- a told host refuses it no other code
+-- a modelled host refuses it no other code
 dup_code : (held : OpenHandle) (code : LowerCode) → MeansErr {B = OpenHandle} (Ok held) (hosts.Code code) → code ≡ lower.Io
 dup_code held lower.Io means = refl
 dup_code held code means = absurd (cc)

@@ -8,7 +8,7 @@ use crate::NAME_MAX;
 /// One name in a directory: `.`, or a plain text, which isn't empty, has no `/`, and is neither `.` nor `..`.
 ///
 /// A host looks up names of this type alone, so no look-up ever names `..` or a path of several segments.
-/// NUL bytes and the length are no matter of this type: a host refuses them by rows of its own.
+/// NUL bytes and the length are no matter of this type: a host refuses them by rules of its own.
 #[derive(Clone, Copy, Debug, PartialEq, Eq)]
 pub struct Name<'a> {
     text: &'a str,

@@ -12,6 +12,8 @@ mod trial;
 
 pub use audit::{PreopenNodes, audit_in};
 pub use guests::{GuestOutcome, guests_in};
-pub use laws::{audits_are_determined, guests_are_determined, reports_are_determined, trials_are_determined};
+pub use laws::{
+    audits_are_determined, guests_are_determined, reports_are_determined, trials_are_determined,
+};
 pub use outcome::{Outcome, report, report_in};
 pub use trial::trial_in;

@@ -1,4 +1,4 @@
--- A call of a told host by itself, and behind others that leave the tree.
+-- A call of a modelled host by itself, and behind others that leave the tree.
 use Rattle.std.proofs.Common.{ℕ, ◌≡◌, inl, inr, true, List, [], ◌∷◌, ◌++◌, Result, Ok, Err, refl, sym, ap, subst, ◌∙◌, arith}
 use Rattle.std.specs.Prelude.{All, Contains, is_ok, if◌then◌else◌}
 use Rattle.std.specs.FinSet.{contains, insert, members}

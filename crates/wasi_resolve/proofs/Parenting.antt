@@ -146,7 +146,7 @@ module _ (t : Tree) (s : ℕ) (path : List ℕ) {text : List ℕ} {part : Compon
       → length new ≤ length old + parent_looks t s path
   placed_bound old new some few = omega (arith, few, looks_there some)
 
--- ---- over a told host
+-- ---- over a modelled host
 
 pub placed_none : (live : Handles) (w : HostModel) (s : ℕ) (path : List ℕ) → split path ≡ None
     → Resolved live w w (places_at w.tree s path) (shown_place w.held) (Err (Code NoEntry))

@@ -17,7 +17,7 @@ use Rattle.wasi_host.proofs.Agreeing as host
 use Rattle.wasi_host.proofs.Agreeing.{one}
 use Rattle.wasi_resolve.proofs.Simulation.{walk-by_nodes}
 
--- a row that holds refuses
+-- a rule that holds refuses
 no_rule : (before : List (Bool × ErrorCode)) (row : Bool × ErrorCode) (rows : List (Bool × ErrorCode))
     → row.0 ≡ true → first_rule (before ++ row ∷ rows) ≡ None → ⊥
 no_rule [] row rows is e = by row.0 is e

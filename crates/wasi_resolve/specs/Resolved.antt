@@ -1,4 +1,4 @@
--- What a call of the resolver does, over every host and over one that tells its world.
+-- What a call of the resolver does, over every host and over a modelled one.
 use Rattle.std.specs.Prelude.{ℕ, ◌≡◌, ◌⊎◌, Bool, true, false, List, [], ◌∷◌, count_by, Option, Some, None, Result, Ok, Err, is_ok, if◌then◌else◌}
 use Rattle.std.specs.FinSet.{contains}
 use Rattle.wasi_host.specs.Tree.{Tree}

@@ -8,7 +8,7 @@ use Rattle.wasi_resolve.specs.Left.{parts_left}
 use Rattle.wasi_resolve.specs.Stack.{nodes_under}
 use Rattle.wasi_resolve.specs.declared.walk_state.Way as taken
 
--- what was live before the walk, the world in which it began, and the handle that it starts from
+-- what was live before the walk, the model in which it began, and the handle that it starts from
 pub record Begin : Type 0 where
   pub live : Handles
   pub model : HostModel
@@ -27,7 +27,7 @@ pub record Course : Type 0 where
   pub follow : Bool
   pub slash : Bool
 
--- where it stands: the world, the stack of handles, and the parts left
+-- where it stands: the model, the stack of handles, and the parts left
 pub record Way : Type 0 where
   pub model : HostModel
   pub stack : List ℕ

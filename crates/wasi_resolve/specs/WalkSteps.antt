@@ -1,5 +1,5 @@
--- What a part of a walk does over a host that tells its world: b is where the walk began, a where it stands before the
--- part, and c behind it. Of calls by themselves w and u are the worlds before and behind them.
+-- What a part of a walk does over a modelled host: b is where the walk began, a where it stands before the
+-- part, and c behind it. Of calls by themselves w and u are the models before and behind them.
 use Rattle.std.specs.Prelude.{◌≡◌, ◌⊎◌, ◌≤◌, ◌+◌, ℕ, suc, Bool, true, false, ◌&&◌, ◌||◌, List, [], ◌∷◌, ◌++◌, length, Option, Some, None, Result, Ok, Err}
 use Rattle.std.specs.FinSet.{contains}
 use Rattle.wasi_host.specs.Options.{Options}

@@ -19,8 +19,9 @@ use wasi_p1::{Call, P1Error, P1State, TrapKind, Value, WasiP1Ctx, call};
 use wasi_report::Outcome;
 use wasi_tree::MemTree;
 
-/// The calls of one guest over a tree: one in memory, which is the sandbox's own, or an overlay over a tree that stays. The
-/// guest's memory is its engine's, which lends it for each call; it may be another one each time, and of another length.
+/// The calls of one guest over a tree: one in memory, which is the sandbox's own, or an overlay over a tree that stays.
+/// The guest's memory is its engine's, which lends it for each call; it may be another one each time, and of another
+/// length.
 #[derive(Drop)]
 pub struct Sandbox<T: Host> {
     pub context: WasiP1Ctx<FailAt<T>>,
@@ -51,9 +52,9 @@ impl<T: SandboxTree> Sandbox<T> {
         }
     }
 
-    /// One call on the memory that is lent, by the row of its name: the arguments are raw numbers, in the order of
-    /// `wasi_snapshot_preview1`, and `docs/calls.md` says what each call refuses and answers. A refusal or a trap leaves
-    /// what is the guest's own.
+    /// One call on the memory that is lent, by the specification of its name: the arguments are raw numbers, in the
+    /// order of `wasi_snapshot_preview1`, and `docs/calls.md` says what each call refuses and answers. A refusal or a
+    /// trap leaves what is the guest's own.
     pub fn call(&mut self, memory: &mut [u8], request: Call) -> Result<Value, P1Error>
         ensures called { Called T.seen self.old self.new memory.old memory.new request result }
     {
@@ -98,8 +99,8 @@ impl<T: SandboxTree> Sandbox<T> {
         self.context.host().inner()
     }
 
-    /// The report of the sandbox as it stands: what was written out, the nodes that were touched, and the tree. No answers
-    /// are kept, and no memory: the report lists none of either.
+    /// The report of the sandbox as it stands: what was written out, the nodes that were touched, and the tree. No
+    /// answers are kept, and no memory: the report lists none of either.
     pub fn report(&self, alloc: Global) -> Result<Vec<u8>, AllocError>
         ensures tells { IfOk result (λ text. Tells T.seen self.now text.items) }
     {
@@ -113,8 +114,8 @@ impl<T: SandboxTree> Sandbox<T> {
         self.tree().report(alloc, &outcome)
     }
 
-    /// The tree as it stands, in memory of its own, as a tree on which no step has worked. It has no live handle, no node is
-    /// touched, and there is no look-up. The sandbox stays, and so does the tree that it may stand over.
+    /// The tree as it stands, in memory of its own, as a tree on which no step has worked. It has no live handle, no
+    /// node is touched, and there is no look-up. The sandbox stays, and so does the tree that it may stand over.
     pub fn commit(&self, alloc: Global) -> Result<MemTree, AllocError>
         ensures { IfOk result (IsFreshOn (T.seen self.now.context.host.inner).tree) }
     {

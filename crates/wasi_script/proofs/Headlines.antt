@@ -79,7 +79,7 @@ pub begun_at : {context : View (Failing MemState)} {memory : List ℕ} (plan : P
     → memory ≡ with_pieces (replicate plan.size 0) plan.pieces → state_of model_behind context memory ≡ start plan
 begun_at {memory} plan is memory-is = is.state memory ∙ (rw memory-is refl)
 
--- the state of a context over a world
+-- the state of a context over a model
 abbrev state_on : {T : Type 0} → View (Failing T) → List ℕ → HostModel → State
 state_on context memory w = record { tree = w.tree; guest = guest_by w.held context memory }
 

@@ -170,8 +170,8 @@ fn run_generated<K: Sink>(alloc: Global, n: u64, sink: &mut K) -> Status
 /// has, how many were answered Ok, how many bytes `fd_read` was answered, and how many nodes the tree has then. With any
 /// others the usage line is written. A script has at most 16,777,216 bytes, and at most one more is read. What is written
 /// is due by the words and the bytes that the source has left: the usage line; the line of `gen N`; the line that names
-/// the refusal, as `refused: json`; the report's text; the audit's; or the trial's. Of a source that doesn't tell its bytes
-/// it is what is due of some bytes. Faults come from the source and the sink alone.
+/// the refusal, as `refused: json`; the report's text; the audit's; or the trial's. Of a source that isn't modelled it
+/// is what is due of some bytes. Faults come from the source and the sink alone.
 pub fn run_script<S: Source, K: Sink>(
     alloc: Global,
     words: &Vec<String>,

@@ -12,12 +12,14 @@ use wasi_host::{AccessMode, Handle, Host};
 use wasi_overlay::Overlay;
 use wasi_tree::{HandleError, MemTree};
 
-/// A tree of files that a script may be run over: a host that gives handles of its directories and lists what was touched.
+/// A tree of files that a script may be run over: a host that gives handles of its directories and lists what was
+/// touched.
 pub trait ScriptTree: Host + Drop {
     /// What contracts see of it: its tree, its handles, the touched nodes and the look-ups.
     ghost seen: { Self → MemState };
 
-    /// A handle of a directory, for its path alone. `NotDirectory` where the node isn't one; `Memory` where memory was wanted.
+    /// A handle of a directory, for its path alone. `NotDirectory` where the node isn't one; `Memory` where memory was
+    /// wanted.
     fn directory_handle(&mut self, node: u64) -> Result<Handle, HandleError>
         ensures not_directory { (result ≡ Err HandleError.NotDirectory)
             ↔ (is_directory (node_at (seen self.old).tree node).content ≡ false) }
@@ -37,10 +39,10 @@ pub trait ScriptTree: Host + Drop {
         ensures nodes { IfOk result (λ nodes. from_list nodes.items ≡ (seen self.now).touched) }
         ensures rising { IfOk result (λ nodes. IsStrictlySortedBy nat_cmp nodes.items) };
 
-    /// It tells its world.
+    /// It is modelled.
     ghost is_told: { IsTrue Self.modelled };
 
-    /// Its world is what is seen of it.
+    /// Its model is what is seen of it.
     ghost same_model: { (t : Self) → Self.model t ≡ model_of (seen t) };
 
     ghost same_live: { (t : Self) → Self.live t ≡ live_of (seen t).handles };

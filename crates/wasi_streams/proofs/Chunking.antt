@@ -21,7 +21,7 @@ drop_front front more = grind (arith, common_steps)
 behind : (bytes : List ℕ) (p : ℕ) (front more : List ℕ) → drop p bytes ≡ front ++ more → drop (p + length front) bytes ≡ more
 behind bytes p front more is = sym (drop-drop (length front) p bytes) ∙ ap (drop (length front)) is ∙ drop_front front more
 
--- what a row may answer and leave
+-- what a specification may answer and leave
 HasAll : {A : Type 0} → (Result A StreamError → ReadState → Type 0) → (ℕ → ReadReply → Type 0) → InputSpec A → Type 0
 HasAll P reads (known given) = P given.0 given.1
 HasAll P reads (read_then size next) = (reply : ReadReply) → reads size reply → P (next reply).0 (next reply).1

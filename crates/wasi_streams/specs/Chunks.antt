@@ -53,7 +53,7 @@ abbrev pub ChunksArePrefix : Type 0
 ChunksArePrefix = (bytes chunks : List ℕ) (s t : Input) → IsNext bytes s.position s.state → AreCalls bytes s chunks t
     → IsPrefix chunks (drop s.position bytes)
 
--- a read of a host that tells its world gives the bytes of the file's node
+-- a read of a modelled host gives the bytes of the file's node
 abbrev pub ReadsAreFromFile : Type 0
 ReadsAreFromFile = (old new : HostSeen) (file position size : ℕ) (reply : ReadReply) → HasRead true old new file position size reply
     → FromFile (bytes_of (node_at old.model.tree (old.model.held file).node).content) position size reply

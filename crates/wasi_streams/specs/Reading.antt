@@ -9,7 +9,7 @@ use Rattle.wasi_streams.specs.declared.input.ReadState.{ReadState}
 use Rattle.wasi_streams.specs.declared.errors.StreamError.{StreamError}
 use Rattle.wasi_streams.specs.declared.errors.StreamError.TheVariants.{Memory}
 
--- what a host says of itself: its count of faults, its live handles, its look-ups, and its world
+-- what a host says of itself: its count of faults, its live handles, its look-ups, and its model
 pub record HostSeen : Type 0 where
   pub faults : FaultCount
   pub live : Handles
@@ -36,7 +36,7 @@ GivesAs given stays (Ok a) new = (Ok a, new) ≡ given
 GivesAs given stays (Err Memory) new = new ≡ stays
 GivesAs given stays (Err e) new = (Err e, new) ≡ given
 
--- what the row says, where reads of so many bytes may have such replies; what is left where memory is wanted
+-- what the specification says, where reads of so many bytes may have such replies; what is left where memory is wanted
 abbrev pub FollowsRead : {A : Type 0} → Type 0 → (ℕ → ReadReply → Type 0) → ReadState → InputSpec A → Result A StreamError → ReadState
     → Type 0
 FollowsRead quiet reads stays (known given) result new = quiet × GivesAs given stays result new

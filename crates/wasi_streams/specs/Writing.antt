@@ -23,7 +23,7 @@ abbrev pub IsInside : FileOutputMode → Type 0
 IsInside (Position offset) = offset < 2 ^ 63
 IsInside Append = Unit {0}
 
--- a told host put the bytes at the offset, or behind the file's last one
+-- a modelled host put the bytes at the offset, or behind the file's last one
 abbrev pub PutTold : HostSeen → HostSeen → ℕ → FileOutputMode → List ℕ → Result ℕ HostError → Type 0
 PutTold old new file (Position offset) piece reply =
     RefinesCall old.live new.live old.model new.model (calls.Pwrite (old.model.held file) offset piece) (λ n. n) reply
@@ -66,7 +66,7 @@ pub data WritesAll (modelled : Bool) (file : ℕ) : HostSeen → FileOutputMode 
       → Puts modelled file old new mode piece (Err error)
       → WritesAll modelled file old mode piece new mode (stopped error piece)
 
--- what the row says, from this host and this place to those after
+-- what the specification says, from this host and this place to those after
 abbrev pub FollowsWrite : {A : Type 0} → Bool → ℕ → HostSeen → FileOutputMode → OutputSpec A → Result A StreamError → HostSeen
     → FileOutputMode → OutputState → Type 0
 FollowsWrite modelled file old mode (answering given) result new end state =

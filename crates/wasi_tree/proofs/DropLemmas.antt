@@ -12,7 +12,7 @@ use Rattle.wasi_host.proofs.Refusals.{refused_before, left_behind}
 use Rattle.wasi_tree.proofs.NameLemmas.{get-no_names}
 use Rattle.wasi_tree.proofs.StoreLemmas.{child_is}
 
--- ---- the rows of a name that is to be dropped
+-- ---- the rules of a name that is to be dropped
 
 pub unlink_refused : (t : Tree) (d : ℕ) (name : List ℕ) {code : ErrorCode}
     → first_rule (dropping_rules t d name codes.IsDirectory) ≡ Some code → refusal t (UnlinkAt d name) ≡ Some code

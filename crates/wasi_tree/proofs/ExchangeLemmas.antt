@@ -1,4 +1,4 @@
--- A node gets a name of a directory, and another name of it goes: the tree that the rows and names then stand for.
+-- A node gets a name of a directory, and another name of it goes: the tree that the inodes and names then stand for.
 use Rattle.std.proofs.Common.{◌≡◌, ◌≢◌, ◌∙◌, ℕ, ◌<◌, true, List, [], ◌∷◌, Option, Some, None, slice_set, refl, sym, ap, arith}
 use Rattle.std.proofs.lemmas.Bool.Decides.{nat_tests}
 use Rattle.std.proofs.lemmas.List.{set_comm}
@@ -24,7 +24,7 @@ abbrev pub exchanged : Tree → ℕ → List ℕ → ℕ → List ℕ → ℕ �
 exchanged t old old_name new new_name n =
     content_changed (content_changed t new (with_entry new_name n)) old (without_entry old_name)
 
--- an exchange in the tree that the rows and names stand for
+-- an exchange in the tree that the inodes and names stand for
 pub record Exchanges (inodes : List Inode) (m : AllNames) (limits : Limits) (worked : Nodes) (t : Tree) (old : ℕ)
     (old_name : List ℕ) (new : ℕ) (new_name : List ℕ) (n : ℕ) : Type 0 where
   pub stands : stored_tree inodes m limits worked ≡ t

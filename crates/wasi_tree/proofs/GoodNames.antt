@@ -1,4 +1,4 @@
--- Names that a directory may hold, where no row refuses them.
+-- Names that a directory may hold, where no rule refuses them.
 use Rattle.std.proofs.Common.{◌≡◌, ℕ, true, List}
 use Rattle.std.specs.Prelude.{IsTrue}
 use Rattle.wasi_paths.specs.Text.{is_name_text, is_entry_name}

@@ -1,6 +1,6 @@
 use Rattle.wasi_tree.specs.declared.node.NewNode.{NewNode}
 use Rattle.wasi_tree.specs.NodeData.{node_data, data_of_node}
--- Lemmas on the rows of nodes and of names: what they stand for, and the tree once a row or a name is another one.
+-- Lemmas on inodes and names: what they stand for, and the tree once an inode or a name is another one.
 use Rattle.std.proofs.Common.{◌≡◌, ◌<◌, ◌+◌, ℕ, zero, suc, Bool, true, List, [], ◌∷◌, ◌++◌, map, length, refl, sym, ap, ◌∙◌, subst, arith, slice_index_or, slice_set, get_or, take}
 use Rattle.std.proofs.Math.Seq.{map-set_same}
 use Rattle.std.proofs.lemmas.List.{length-map, length-set, length-append, map-set, map_push, take_more, length-take-le}
@@ -26,12 +26,12 @@ pub next-inodes : (inodes : List Inode) (m : AllNames) (limits : Limits) (worked
 next-inodes inodes m limits worked t is =
     subst (λ u. next_of u ≡ length inodes) is (length-named m 0 (map stored_node inodes) ∙ length-map inodes stored_node)
 
--- a node has a row
+-- a node has an inode
 pub inode_within : (inodes : List Inode) (m : AllNames) {limits : Limits} {worked : Nodes} {t : Tree} {n : ℕ}
     → stored_tree inodes m limits worked ≡ t → n < next_of t → n < length inodes
 inode_within inodes m stands within = omega (arith, within, next-inodes inodes m _ _ _ stands)
 
--- as many rows are as many nodes
+-- as many inodes are as many nodes
 pub count_same : (inodes inodes' : List Inode) (m m' : AllNames) {limits : Limits} {worked : Nodes} {t : Tree}
     → length inodes' ≡ length inodes → stored_tree inodes m limits worked ≡ t
     → length (named_from m' 0 (map stored_node inodes')) ≡ next_of t
@@ -45,7 +45,7 @@ inode_at [] k d within = absurd (omega arith)
 inode_at (inode ∷ inodes) zero d within = refl
 inode_at (inode ∷ inodes) (suc k) d within = inode_at inodes k d (omega arith)
 
--- the row that was read of a node, where the rows and names stand for a tree
+-- the inode that was read of a node, where the inodes and names stand for a tree
 pub record IsInodeAt (inodes : List Inode) (m : AllNames) (limits : Limits) (worked : Nodes) (t : Tree) (n : ℕ) (inode : Inode) : Type 0 where
   pub stands : stored_tree inodes m limits worked ≡ t
   pub within : n < next_of t
@@ -61,7 +61,7 @@ module _ {inodes : List Inode} {m : AllNames} {limits : Limits} {worked : Nodes}
   abbrev old : Node
   old = node_at t n
 
-  -- the node is the row's, with its names
+  -- the node is the inode's, with its names
   pub inode_node : node_at t n ≡ with_names (names_at m n) (stored_node inode)
   unfolding node_at
   inode_node =
@@ -100,7 +100,7 @@ module _ {inodes : List Inode} {m : AllNames} {limits : Limits} {worked : Nodes}
     below = below_more (omega (arith, length-set inodes n (record inode { content = content }))) stored.below;
   }
 
-  -- a row that stands for what f makes of what this one stood for
+  -- an inode that stands for what f makes of what this one stood for
   module _ (f : Node → Node) (unnamed : (names : Names) (node : Node) → with_names names (f node) ≡ f (with_names names node))
       (new : Inode) (does : stored_node new ≡ f (stored_node inode)) where
     nodes_put : named_from m 0 (map stored_node (slice_set inodes n new)) ≡ slice_set t.nodes n (f old)
@@ -109,7 +109,7 @@ module _ {inodes : List Inode} {m : AllNames} {limits : Limits} {worked : Nodes}
         ∙ (λ i. slice_set (is.stands i).nodes n
         ((ap (with_names (names_at m n)) does ∙ unnamed (names_at m n) (stored_node inode) ∙ sym (ap f inode_node)) i))
 
-    -- the tree that the rows then stand for
+    -- the tree that the inodes then stand for
     pub tree_put : (now : Nodes) → stored_tree (slice_set inodes n new) m limits now ≡ changed t n (f old) now
     tree_put now = λ i.
         let u : Tree = record { nodes = nodes_put i; limits = (is.stands i).limits; worked = now } in u
@@ -141,7 +141,7 @@ module _ {inodes : List Inode} {m : AllNames} {limits : Limits} {worked : Nodes}
     node_unnamed names node =
         ap (λ (c : Content). let k : Node = record node { content = c } in k) (unnamed names node.content)
 
-    -- the tree that the rows then stand for, where the node is marked
+    -- the tree that the inodes then stand for, where the node is marked
     pub tree_written : {now : Nodes} → now ≡ insert worked n
         → stored_tree (slice_set inodes n new) m limits now ≡ content_changed t n f
     tree_written {now} marked =
@@ -154,7 +154,7 @@ module _ {inodes : List Inode} {m : AllNames} {limits : Limits} {worked : Nodes}
     sound_written now same_seen stored same =
         sound_inode change node_unnamed new node_written now (λ node. same_seen node.content) stored same
 
--- what a row says without a look at its names, its node says
+-- what an inode says without a look at its names, its node says
 pub said_at : (inodes : List Inode) (m : AllNames) {limits : Limits} {worked : Nodes} {t : Tree} {n : ℕ} {inode : Inode}
     {B : Type 0} (f : Content → B)
     → ((names old : Names) (gone : Bool) → f (Directory names gone) ≡ f (Directory old gone))
@@ -166,7 +166,7 @@ said_at inodes m {limits} {worked} {t} {n} {inode} f same stands within read =
 
 -- ---- names
 
--- a directory, where the rows and names stand for a tree
+-- a directory, where the inodes and names stand for a tree
 pub record IsIn (inodes : List Inode) (m : AllNames) (limits : Limits) (worked : Nodes) (t : Tree) (d : ℕ) : Type 0 where
   pub stands : stored_tree inodes m limits worked ≡ t
   pub directory : is_directory (node_at t d).content ≡ true
@@ -234,7 +234,7 @@ module _ {inodes : List Inode} {m : AllNames} {limits : Limits} {worked : Nodes}
       let marks = marked ∙ ap (λ (u : Tree). insert u.worked d) is.stands in
       λ i. let u : Tree = record { nodes = nodes i; limits = (is.stands i).limits; worked = marks i } in u
 
-  -- the tree with one row more, which a name of a directory holds
+  -- the tree with one inode more, which a name of a directory holds
   pub tree_grown : (name : List ℕ) (last : Inode) {items : List Inode} {names : AllNames} {now : Nodes}
       → names_at m (length inodes) ≡ maps.empty → items ≡ inodes ++ last ∷ []
       → names ≡ maps.insert m (d, name) (next_of t) → now ≡ with_nodes t.worked (d ∷ next_of t ∷ [])

@@ -159,7 +159,7 @@ kept_dropped {t} {u} {n = n} {old = old} has dropped kept counted next set = rec
       (parents_dropped has name_lost (seen-name_lost (node_at t n).content) kept.stand));
 }
 
--- ---- names that no row refuses to drop
+-- ---- names that no rule refuses to drop
 
 pub unlink_has : {t : Tree} {d n : ℕ} {name : List ℕ} → refusal t (UnlinkAt d name) ≡ None → child t d name ≡ Some n
     → n < next_of t → HasName t d name n

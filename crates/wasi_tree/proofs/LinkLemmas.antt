@@ -18,7 +18,7 @@ use Rattle.wasi_tree.specs.Move.{MayGain}
 use Rattle.wasi_tree.specs.TouchedTree.{Touched, AnsweredByRules}
 use Rattle.wasi_tree.proofs.GoodNames.{added_good}
 
--- ---- the rows
+-- ---- the rules
 
 pub names_refused : (t : Tree) (old : ℕ) (old_name : List ℕ) (new : ℕ) (new_name : List ℕ) {code : ErrorCode}
     → first_rule (both_rules t old old_name new new_name) ≡ Some code
@@ -33,7 +33,7 @@ pub none_there : {A : Type 0} (found : Option A) → is_some found ≡ false →
 none_there None none = refl
 none_there (Some x) none = absurd (cc)
 
--- the rows for the names don't refuse, the old name is there, and the new one isn't
+-- the rules for the names don't refuse, the old name is there, and the new one isn't
 pub record AreNamed (t : Tree) (old : ℕ) (old_name : List ℕ) (new : ℕ) (new_name : List ℕ) (n : ℕ) : Type 0 where
   pub named : first_rule (both_rules t old old_name new new_name) ≡ None
   pub found : child t old old_name ≡ Some n
@@ -69,7 +69,7 @@ links_free are entered linked =
     let missing = are.missing in
     grind (arith)
 
--- ---- a call that no row refuses
+-- ---- a call that no rule refuses
 
 pub record MayLink (t : Tree) (old : ℕ) (old_name : List ℕ) (new : ℕ) (new_name : List ℕ) (n : ℕ) : Type 0 where
   pub free : refusal t (LinkAt old old_name new new_name) ≡ None

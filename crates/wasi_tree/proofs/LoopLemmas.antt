@@ -1,4 +1,4 @@
--- The rows for a node that would come below itself, or in the place of a directory above it.
+-- The rules for a node that would come below itself, or in the place of a directory above it.
 use Rattle.std.proofs.Common.{◌≡◌, ℕ, Bool, true, false, ◌&&◌, [], ◌∷◌, Option, Some, None, ap, ◌∙◌}
 use Rattle.wasi_host.specs.Below.{is_below}
 use Rattle.wasi_host.specs.Tree.{Tree, node_at, is_directory}
@@ -6,7 +6,7 @@ use Rattle.wasi_host.specs.Refusal.{first_rule, finds_directory, finds_above, lo
 use Rattle.wasi_host.specs.declared.errors.ErrorCode.TheVariants as codes
 use Rattle.wasi_tree.proofs.WayLemmas.{below_directory}
 
--- the second row, by what the new name holds
+-- the second rule, by what the new name holds
 abbrev above_old : Tree → ℕ → Option ℕ → Bool
 above_old t old there = finds_directory t there && finds_above t there old
 

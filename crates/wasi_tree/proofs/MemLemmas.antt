@@ -59,7 +59,7 @@ holds-on holds stays grows = record {
   room = λ h live. grows (held_in _ h).node (holds.room h live);
 }
 
--- ---- no row is `Io`
+-- ---- no rule is `Io`
 
 naming_io : (t : Tree) (old : ℕ) (old_name : List ℕ) (new : ℕ) (new_name : List ℕ) (requires_dir : Bool)
     → first_rule (naming_rules t old old_name new new_name requires_dir) ≢ Some Io
@@ -93,7 +93,7 @@ rename_io t old old_name new new_name requires_dir io =
       | inr is ↦ renaming_io t old new found there is
     ]
 
--- no row of the table is `Io`
+-- no rule of the table is `Io`
 never_io : (t : Tree) (call : HostCall) → refusal t call ≢ Some Io
 unfolding refusal
 never_io t (OpenAt d name o) io = grind (arith)

@@ -40,7 +40,7 @@ pub unnamed-name_lost : (names : Names) (content : Content)
 unnamed-name_lost names = each_kind (λ c. named_content names (name_lost c) ≡ name_lost (named_content names c))
     (λ _ _. refl) (λ _ _. refl) (λ _ _. refl)
 
--- a row has no names of its own
+-- an inode has no names of its own
 pub named_inode : (inode : Inode) → with_names empty (stored_node inode) ≡ stored_node inode
 named_inode inode = ap (λ c. let n : Node = record (stored_node inode) { content = c } in n) (by inode.content)
   where

@@ -1,4 +1,4 @@
--- The rows of a list of nodes stand for its tree, and it is sound where the nodes are fit.
+-- The inodes of a list of nodes stand for its tree, and it is sound where the nodes are fit.
 use Rattle.std.proofs.Common.{◌≡◌, ◌<◌, ℕ, zero, suc, ◌+◌, Bool, true, false, cond, not, ◌&&◌, nat_lt, nat_le, List, [], ◌∷◌, ◌++◌, Some, map, length, refl, sym, ap, ◌∙◌, subst, arith, append_assoc, slice_index_or}
 use Rattle.std.specs.Prelude.{slice_get}
 use Rattle.std.proofs.lemmas.Bool.{true≢false, and_parts, ltb-true, leb-true}
@@ -41,9 +41,9 @@ length-name_counts : (all : List NodeData) → length (name_counts all) ≡ leng
 length-name_counts all =
     length-map (numbers_from 0 (length all)) (λ n. entry_count n all) ∙ length-numbers 0 (length all)
 
--- ---- rows of the nodes, one after another
+-- ---- inodes of the nodes, one after another
 
--- the rows and names of the first nodes are made, and these nodes are left
+-- the inodes and names of the first nodes are made, and these nodes are left
 pub record AreInodes (all : List NodeData) (inodes : List Inode) (names : AllNames) (left : List NodeData) : Type 0 where
   pub same : named_from names 0 (map stored_node inodes) ++ nodes_from all (length inodes) left ≡ nodes_from all 0 all
   pub count : length inodes + length left ≡ length all

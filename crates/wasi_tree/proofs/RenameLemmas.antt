@@ -1,4 +1,4 @@
--- The rows of a rename, one part after another, and its step.
+-- The rules of a rename, one part after another, and its step.
 use Rattle.std.proofs.Common.{◌≡◌, ◌<◌, ◌≢◌, ℕ, Bool, true, false, cond, List, [], ◌++◌, Option, Some, None, sym, ap, ◌∙◌}
 use Rattle.std.specs.Prelude.{IsTrue}
 use Rattle.std.proofs.lemmas.Bool.{true≢false, ne_eqb}
@@ -22,7 +22,7 @@ use Rattle.wasi_tree.proofs.KeptLemmas.{named_there, named_bare}
 use Rattle.wasi_tree.proofs.LinkLemmas.{with_nodes-append}
 use Rattle.wasi_tree.proofs.WayLemmas.{below_itself}
 
--- ---- the rows
+-- ---- the rules
 
 pub naming_refused : (t : Tree) (old : ℕ) (old_name : List ℕ) (new : ℕ) (new_name : List ℕ) (requires_dir : Bool)
     {code : ErrorCode} → first_rule (naming_rules t old old_name new new_name requires_dir) ≡ Some code
@@ -32,7 +32,7 @@ naming_refused t old old_name new new_name requires_dir refused =
     refused_before (naming_rules t old old_name new new_name requires_dir)
     (renaming_rules t old new (child t old old_name) (child t new new_name)) refused
 
--- the rows for the names don't refuse, and this is what the names hold
+-- the rules for the names don't refuse, and this is what the names hold
 pub record Holds (t : Tree) (old : ℕ) (old_name : List ℕ) (new : ℕ) (new_name : List ℕ) (requires_dir : Bool) (n : ℕ)
     (there : Option ℕ) : Type 0 where
   pub free : first_rule (naming_rules t old old_name new new_name requires_dir) ≡ None
@@ -95,7 +95,7 @@ module _ {t : Tree} {old new n : ℕ} {old_name new_name : List ℕ} {requires_d
       → name_moved_onto t old old_name new new_name n there ≡ rename_step t old old_name new new_name
   step_moves other = sym (steps ∙ ap (λ one. cond one t (name_moved_onto t old old_name new new_name n there)) other)
 
--- ---- what the rows say
+-- ---- what the rules say
 
 pub record Free (t : Tree) (old new n : ℕ) (there : Option ℕ) : Type 0 where
   pub loops : first_rule (loop_rules t old new (Some n) there) ≡ None

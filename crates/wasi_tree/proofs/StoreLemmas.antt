@@ -52,7 +52,7 @@ child_below count node name sound = if_some (get (names_of node.content) name) (
     if_some None below = tt
     if_some (Some n) below = below n refl
 
--- a row for the name refuses an open
+-- a rule for the name refuses an open
 pub open_refused : (t : Tree) (d : ℕ) (name : List ℕ) (o : Options) (code : ErrorCode)
     → is_directory (node_at t d).content ≡ true → are_refused o ≡ false → first_rule (name_rules t d name) ≡ Some code
     → refusal t (OpenAt d name o) ≡ Some code

@@ -26,7 +26,7 @@ held_stays {held = held} stays is = record {
   writes_file = λ writes. stays.files held.node is.within ∙ is.writes_file writes;
 }
 
--- ---- an open that no row refuses
+-- ---- an open that no rule refuses
 
 pub record IsFree (t : Tree) (d : ℕ) (name : List ℕ) (o : Options) : Type 0 where
   pub none : refusal t (OpenAt d name o) ≡ None

@@ -190,7 +190,7 @@ within_itself t zero n = nat_eq-refl n
 within_itself t (suc k) n =
     or_left (nat_eq n n) (list_any (λ e. is_within t k e.1 n) (below_of t n)) (nat_eq-refl n)
 
--- a node is below itself, as the rows count it
+-- a node is below itself, as the rules count it
 pub below_itself : (t : Tree) (n : ℕ) → is_below t n n ≡ true
 below_itself t n = within_itself t (next_of t) n
 

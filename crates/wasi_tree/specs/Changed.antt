@@ -9,7 +9,7 @@ use Rattle.wasi_host.specs.Step.{step}
 use Rattle.wasi_tree.specs.declared.change.TreeChange.{TreeChange}
 use Rattle.wasi_tree.specs.declared.change.TreeChange.TheVariants.{Drop, Move}
 
--- the step of a call, unless a row of the table refuses it
+-- the step of a call, unless a rule of the table refuses it
 abbrev pub step_unless_refused : Tree → HostCall → Tree
 step_unless_refused t call = if is_none (refusal t call) then step t call else t
 

@@ -34,7 +34,7 @@ pub record IsExchange (t : Tree) (old : ℕ) (old_name : List ℕ) (new : ℕ) (
   pub names_apart : old ≡ new → old_name ≢ new_name
   pub good : IsTrue (is_entry_name new_name)
 
--- A rename that no row refuses: its step moves a node, or changes nothing where there is none to move.
+-- A rename that no rule refuses: its step moves a node, or changes nothing where there is none to move.
 abbrev pub Moves : Tree → ℕ → List ℕ → ℕ → List ℕ → Option ℕ → Option ℕ → Type 0
 Moves t old old_name new new_name there None = rename_step t old old_name new new_name ≡ t
 Moves t old old_name new new_name there (Some n) = IsMove t old old_name new new_name n there

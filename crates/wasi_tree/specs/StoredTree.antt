@@ -1,4 +1,4 @@
--- The tree that the rows of a store stand for: those of its nodes, and those of the names of its directories.
+-- The tree that a store stands for: its inodes, and the names of its directories.
 use Rattle.std.specs.Prelude.{◌≡◌, ℕ, ◌+◌, ◌≤◌, false, is_some, nat_eq, if◌then◌else◌, List, [], ◌∷◌, length, map}
 use Rattle.std.specs.String.{string_bytes}
 use Rattle.std.specs.FinMap as maps
@@ -10,7 +10,7 @@ use Rattle.wasi_tree.specs.declared.inode.Inode.{Inode}
 use Rattle.wasi_tree.specs.declared.inode.InodeContent.{InodeContent}
 use Rattle.wasi_tree.specs.declared.inode.InodeContent.TheVariants as inodes
 
--- what a row says of its node: all but the names of a directory
+-- what an inode says of its node: all but the names of a directory
 abbrev pub stored_content : InodeContent → Content
 stored_content (inodes.File bytes links) = File bytes.items links
 stored_content (inodes.Dir gone) = Directory maps.empty gone
@@ -33,7 +33,7 @@ abbrev pub named_from : AllNames → ℕ → List Node → List Node
 named_from m k [] = []
 named_from m k (node ∷ nodes) = with_names (names_at m k) node ∷ named_from m (k + 1) nodes
 
--- the tree of these rows and names, where these nodes have been worked on
+-- the tree of these inodes and names, where these nodes have been worked on
 abbrev pub stored_tree : List Inode → AllNames → Limits → Nodes → Tree
 stored_tree inodes m limits worked = record { nodes = named_from m 0 (map stored_node inodes); limits = limits; worked = worked }
 
@@ -41,7 +41,7 @@ stored_tree inodes m limits worked = record { nodes = named_from m 0 (map stored
 pub record AreBelow (m : AllNames) (k : ℕ) : Type 0 where
   pub none : (d : ℕ) → k ≤ d → names_at m d ≡ maps.empty
 
--- the tree of the rows and names is sound, and no name is one of a directory that isn't there
+-- the tree of the inodes and names is sound, and no name is one of a directory that isn't there
 pub record IsStored (inodes : List Inode) (m : AllNames) (limits : Limits) (worked : Nodes) (marks : ℕ) : Type 0 where
   pub sound : IsSound (stored_tree inodes m limits worked) marks
   pub below : AreBelow m (length inodes)

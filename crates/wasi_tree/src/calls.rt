@@ -1,5 +1,6 @@
-//! What each call of a host does to a tree, in whatever way its nodes are kept. What a function does, and which rows of
-//! the host's table refuse it, is said of the method of `Host` that has its name; node numbers stand in place of handles.
+//! What each call of a host does to a tree, in whatever way its nodes are kept. What a function does, and which rules
+//! of the host's table refuse it, is said of the method of `Host` that has its name; node numbers stand in place of
+//! handles.
 ghost use Rattle.std.specs.Prelude.{◌≡◌, ◌<◌, ◌≤◌, ◌^◌, ◌∷◌, if◌then◌else◌, Ok, IfOk, OnOk, OnErr, length, take, drop, map, option_to_list, All, IsTrue};
 ghost use Rattle.std.specs.Option.{ForSome};
 ghost use Rattle.std.specs.String.{string_bytes};

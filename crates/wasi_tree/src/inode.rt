@@ -252,8 +252,8 @@ impl InodeContent {
 impl Inode {
     ghost use Rattle.wasi_tree.specs.StoredTree.{stored_node};
 
-    /// The row of the node of a number, which so many entries of its list give. The names of a directory come among the
-    /// others; of two entries of one name the first one stays.
+    /// The inode of the node of a number, which so many entries of its list give. The names of a directory come among
+    /// the others; of two entries of one name the first one stays.
     pub fn new(
         node: NewNode,
         number: u64,
@@ -274,7 +274,7 @@ impl Inode {
         })
     }
 
-    /// The row of a node that is made.
+    /// The inode of a node that is made.
     fn made(content: InodeContent, x: bool) -> Inode
         ensures { stored_node result ≡ new_node (stored_content content) x }
     {
@@ -287,7 +287,7 @@ impl Inode {
         }
     }
 
-    /// The row of a file that is made.
+    /// The inode of a file that is made.
     pub fn new_file(alloc: Global) -> Inode
         ensures { stored_node result ≡ new_file }
     {
@@ -295,14 +295,14 @@ impl Inode {
         Inode::made(InodeContent::File { bytes, links: 1 }, false)
     }
 
-    /// The row of a directory that is made.
+    /// The inode of a directory that is made.
     pub fn new_directory() -> Inode
         ensures { stored_node result ≡ new_directory }
     {
         Inode::made(InodeContent::Dir { gone: false }, true)
     }
 
-    /// The row of a link that is made.
+    /// The inode of a link that is made.
     pub fn new_link(text: String) -> Inode
         ensures { stored_node result ≡ new_link (string_bytes text) }
     {

@@ -1,4 +1,4 @@
-//! `MemTree`, the tree of files in memory: a host that tells its tree, its handles and the nodes that were touched.
+//! `MemTree`, the tree of files in memory: a modelled host, of which contracts know the tree, the handles and the touched nodes.
 #![tactic(auto)]
 
 mod bytes;

@@ -1,4 +1,4 @@
-//! Nodes in memory: a row each, the parents of directories, and marks of the touched ones.
+//! Nodes in memory: an inode each, the parents of directories, and marks of the touched ones.
 ghost use Rattle.std.specs.Prelude.{◌≡◌, ◌<◌, ◌≤◌, ℕ, true, length, IfOk};
 ghost use Rattle.std.specs.FinMap as maps;
 ghost use Rattle.std.specs.FinSet.{empty};
@@ -25,8 +25,8 @@ use wasi_host::{Bits, DirEntry, Limits, Metadata, SystemTime};
 use wasi_paths::Name;
 use wasi_tree_index::{EntryCursor, NameIndex, SearchHint};
 
-/// The nodes of a tree with the parents of its directories, and which of them calls have touched. Contracts see all three.
-/// Each node has room.
+/// The nodes of a tree with the parents of its directories, and which of them calls have touched. Contracts see all
+/// three. Each node has room.
 #[derive(Debug, Drop)]
 pub struct MemStore {
     pub(crate) store: InodeStore,
@@ -61,8 +61,8 @@ impl MemStore {
         MemStore::begin(alloc, store, parents)
     }
 
-    /// The tree of these rows, with the names of all directories, and for each node the directory that it stands in. No
-    /// node has been worked on, and none is touched.
+    /// The tree of these inodes, with the names of all directories, and for each node the directory that it stands in.
+    /// No node has been worked on, and none is touched.
     pub fn of_stored(
         alloc: Global,
         rows: Vec<Inode>,
@@ -125,8 +125,8 @@ impl MemStore {
         self.store.all_names()
     }
 
-    /// The directory in which a directory stands; none of the root, and of one that was removed. What is said of a file or a
-    /// link is no matter.
+    /// The directory in which a directory stands; none of the root, and of one that was removed. What is said of a file
+    /// or a link is no matter.
     pub fn parent(&self, n: u64) -> Option<u64>
         ensures { result ≡ parent_of self.now.parents n }
     {
@@ -238,7 +238,12 @@ impl NodeStore for MemStore {
     }
 
     /// All room is taken first, so that nothing has changed where memory is wanted.
-    fn make_node(&mut self, directory: u64, name: Name<'_>, inode: Inode) -> Result<u64, AllocError> {
+    fn make_node(
+        &mut self,
+        directory: u64,
+        name: Name<'_>,
+        inode: Inode,
+    ) -> Result<u64, AllocError> {
         self.touched.reserve()?;
         self.parents.reserve()?;
         let node = self.store.make_node(directory, name, inode)?;

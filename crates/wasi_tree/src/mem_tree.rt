@@ -107,7 +107,7 @@ impl TreeHost<MemStore> {
         self.store.names(dir)
     }
 
-    /// Makes a change that no call makes, as the host's step of that kind; one that a row of the host's table refuses, that
+    /// Makes a change that no call makes, as the host's step of that kind; one that a rule of the host's table refuses, that
     /// has a name which isn't plain, or that names as a directory a number which isn't one, is skipped. It takes no memory:
     /// the row of the old name holds the new one. Nothing is touched, and no look-up is added.
     pub fn change(&mut self, change: TreeChange)

@@ -13,7 +13,8 @@ use crate::node_store::NodeStore;
 use crate::refusals::{node_to_rename, refuse_move};
 use wasi_host::ErrorCode;
 
-/// The node that a rename moves, or nothing where both names hold it already; where a row refuses the rename, its code.
+/// The node that a rename moves, or nothing where both names hold it already; where a rule refuses the rename, its
+/// code.
 pub fn node_to_move<S: NodeStore>(
     store: &S,
     from: &NameLookup<'_>,
@@ -40,7 +41,7 @@ pub fn node_to_move<S: NodeStore>(
     Ok(Some(node))
 }
 
-/// The rows for a node that would come below itself, or in the place of a directory that is above it.
+/// The rules for a node that would come below itself, or in the place of a directory that is above it.
 fn refuse_loop<S: NodeStore>(
     store: &S,
     old: u64,

@@ -38,7 +38,7 @@ pub fn refuse_name<S: NodeStore>(store: &S, directory: u64, name: Name<'_>) -> O
     None
 }
 
-/// The rows of an open that speak of a missing name.
+/// The rules of an open that speak of a missing name.
 #[tactic(auto, using(crate::proofs::StoreLemmas::store_rules))]
 pub fn refuse_missing<S: NodeStore>(
     store: &S,
@@ -54,7 +54,7 @@ pub fn refuse_missing<S: NodeStore>(
     refuse_growth(store, directory)
 }
 
-/// The rows for a directory that is to get a name.
+/// The rules for a directory that is to get a name.
 #[tactic(auto, using(crate::proofs::StoreLemmas::store_rules))]
 pub fn refuse_entry<S: NodeStore>(store: &S, directory: u64) -> Option<ErrorCode>
     requires { directory < next_of (S.seen store.now).tree }
@@ -69,7 +69,7 @@ pub fn refuse_entry<S: NodeStore>(store: &S, directory: u64) -> Option<ErrorCode
     None
 }
 
-/// The rows for a directory that is to get a new node.
+/// The rules for a directory that is to get a new node.
 #[tactic(auto, using(crate::proofs::StoreLemmas::store_rules))]
 pub fn refuse_growth<S: NodeStore>(store: &S, directory: u64) -> Option<ErrorCode>
     requires { directory < next_of (S.seen store.now).tree }
@@ -84,7 +84,7 @@ pub fn refuse_growth<S: NodeStore>(store: &S, directory: u64) -> Option<ErrorCod
     None
 }
 
-/// The rows of an open that speak of the node that is there.
+/// The rules of an open that speak of the node that is there.
 #[tactic(auto, using(crate::proofs::StoreLemmas::store_rules))]
 pub fn refuse_found<S: NodeStore>(store: &S, node: u64, options: &OpenOptions) -> Option<ErrorCode>
     requires { node < next_of (S.seen store.now).tree }
@@ -119,7 +119,7 @@ pub fn refuse_found<S: NodeStore>(store: &S, node: u64, options: &OpenOptions) -
     None
 }
 
-/// The code of the first row of an open that holds, where the name holds this node.
+/// The code of the first rule of an open that holds, where the name holds this node.
 #[tactic(auto, using(crate::proofs::StoreLemmas::store_rules), unfolding(wasi_host::specs::Refusal::refusal))]
 pub fn refuse_open<S: NodeStore>(
     store: &S,
@@ -147,7 +147,7 @@ pub fn refuse_open<S: NodeStore>(
     refuse_found(store, node, options)
 }
 
-/// The node that a name holds, where no row of a look at its metadata refuses; else the row's code.
+/// The node that a name holds, where no rule of a look at its metadata refuses; else the rule's code.
 #[tactic(auto, using(crate::proofs::StoreLemmas::store_rules), unfolding(wasi_host::specs::Refusal::refusal))]
 pub fn node_under<S: NodeStore>(store: &S, looked: &NameLookup<'_>) -> Result<u64, ErrorCode>
     requires { IsLooked (S.seen store.now).tree looked.now }
@@ -168,7 +168,7 @@ pub fn node_under<S: NodeStore>(store: &S, looked: &NameLookup<'_>) -> Result<u6
     Ok(node)
 }
 
-/// The rows for a name that is to hold a new node.
+/// The rules for a name that is to hold a new node.
 #[tactic(auto, using(crate::proofs::StoreLemmas::store_rules))]
 pub fn refuse_new_name<S: NodeStore>(store: &S, looked: &NameLookup<'_>) -> Option<ErrorCode>
     requires { IsLooked (S.seen store.now).tree looked.now }
@@ -183,7 +183,7 @@ pub fn refuse_new_name<S: NodeStore>(store: &S, looked: &NameLookup<'_>) -> Opti
     refuse_growth(store, looked.directory)
 }
 
-/// The code of the first row that refuses to make a directory, where the name holds this node.
+/// The code of the first rule that refuses to make a directory, where the name holds this node.
 #[tactic(auto, using(crate::proofs::StoreLemmas::store_rules), unfolding(wasi_host::specs::Refusal::refusal))]
 pub fn refuse_make_dir<S: NodeStore>(store: &S, looked: &NameLookup<'_>) -> Option<ErrorCode>
     requires { IsLooked (S.seen store.now).tree looked.now }
@@ -195,7 +195,7 @@ pub fn refuse_make_dir<S: NodeStore>(store: &S, looked: &NameLookup<'_>) -> Opti
     refuse_new_name(store, looked)
 }
 
-/// The code of the first row that refuses to make a link of this text, where the name holds this node.
+/// The code of the first rule that refuses to make a link of this text, where the name holds this node.
 #[tactic(auto, using(crate::proofs::StoreLemmas::store_rules), unfolding(wasi_host::specs::Refusal::refusal))]
 pub fn refuse_symlink<S: NodeStore>(
     store: &S,
@@ -245,8 +245,8 @@ pub fn access_of<S: NodeStore>(store: &S, directory: u64) -> Result<(), ErrorCod
     Err(ErrorCode::Access)
 }
 
-/// The node under a name that is to be dropped, where no row refuses that looks at the name and at what has it; else
-/// the row's code. That of `.` is given.
+/// The node under a name that is to be dropped, where no rule refuses that looks at the name and at what has it; else
+/// the rule's code. That of `.` is given.
 #[tactic(auto, using(crate::proofs::StoreLemmas::store_rules))]
 pub fn node_to_drop<S: NodeStore>(
     store: &S,
@@ -299,7 +299,7 @@ pub fn refuse_both<S: NodeStore>(
     refuse_name(store, new.directory, new.name)
 }
 
-/// The node under the old name, where no row refuses to give it the new one; else the row's code.
+/// The node under the old name, where no rule refuses to give it the new one; else the rule's code.
 #[tactic(auto, using(crate::proofs::StoreLemmas::store_rules), unfolding(wasi_host::specs::Refusal::refusal))]
 pub fn node_to_link<S: NodeStore>(
     store: &S,
@@ -332,7 +332,7 @@ pub fn node_to_link<S: NodeStore>(
     Ok(node)
 }
 
-/// The rows for a node that is to get a name more.
+/// The rules for a node that is to get a name more.
 #[tactic(auto, using(crate::proofs::StoreLemmas::store_rules))]
 pub fn check_links<S: NodeStore>(store: &S, node: u64) -> Result<(), ErrorCode>
     requires { node < next_of (S.seen store.now).tree }
@@ -348,8 +348,8 @@ pub fn check_links<S: NodeStore>(store: &S, node: u64) -> Result<(), ErrorCode>
     Ok(())
 }
 
-/// The node under the old name, where no row refuses a rename that looks at the names and at this node alone; else the
-/// row's code.
+/// The node under the old name, where no rule refuses a rename that looks at the names and at this node alone; else the
+/// rule's code.
 #[tactic(auto, using(crate::proofs::StoreLemmas::store_rules))]
 pub fn node_to_rename<S: NodeStore>(
     store: &S,
@@ -403,7 +403,7 @@ pub fn refuse_move<S: NodeStore>(
     refuse_replace(store, node, lost)
 }
 
-/// The rows for the directories that lose and get a name.
+/// The rules for the directories that lose and get a name.
 #[tactic(auto, using(crate::proofs::StoreLemmas::store_rules))]
 pub fn refuse_access<S: NodeStore>(store: &S, old: u64, new: u64, node: u64) -> Option<ErrorCode>
     requires old { old < next_of (S.seen store.now).tree }
@@ -423,7 +423,7 @@ pub fn refuse_access<S: NodeStore>(store: &S, old: u64, new: u64, node: u64) -> 
     None
 }
 
-/// The rows for a node that comes in the place of another.
+/// The rules for a node that comes in the place of another.
 #[tactic(auto, using(crate::proofs::StoreLemmas::store_rules))]
 pub fn refuse_replace<S: NodeStore>(store: &S, node: u64, lost: u64) -> Option<ErrorCode>
     requires node { node < next_of (S.seen store.now).tree }
@@ -460,7 +460,7 @@ fn refuse_text(text: &str) -> Option<ErrorCode>
     None
 }
 
-/// The node under a name, where no row refuses to drop the name of a file or link; else the row's code.
+/// The node under a name, where no rule refuses to drop the name of a file or link; else the rule's code.
 #[tactic(auto, using(crate::proofs::StoreLemmas::store_rules))]
 pub fn node_to_unlink<S: NodeStore>(store: &S, looked: &NameLookup<'_>) -> Result<u64, ErrorCode>
     requires { IsLooked (S.seen store.now).tree looked.now }
@@ -478,7 +478,7 @@ pub fn node_to_unlink<S: NodeStore>(store: &S, looked: &NameLookup<'_>) -> Resul
     Ok(node)
 }
 
-/// The node under a name, where no row refuses to drop the name of an empty directory; else the row's code.
+/// The node under a name, where no rule refuses to drop the name of an empty directory; else the rule's code.
 #[tactic(auto, using(crate::proofs::StoreLemmas::store_rules))]
 pub fn node_to_remove<S: NodeStore>(store: &S, looked: &NameLookup<'_>) -> Result<u64, ErrorCode>
     requires { IsLooked (S.seen store.now).tree looked.now }

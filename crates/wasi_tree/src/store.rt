@@ -26,8 +26,8 @@ use wasi_host::{Bits, DirEntry, FileType, Limits, Metadata, SystemTime};
 use wasi_paths::Name;
 use wasi_tree_index::{EntryCursor, NameIndex, SearchHint};
 
-/// The nodes of a tree, with the names of its directories, its limits and the nodes that steps have worked on. Contracts
-/// see the tree.
+/// The nodes of a tree, with the names of its directories, its limits and the nodes that steps have worked on.
+/// Contracts see the tree.
 #[derive(Debug, Drop)]
 pub struct InodeStore {
     pub(crate) inodes: Vec<Inode>,
@@ -71,7 +71,7 @@ impl InodeStore {
         InodeStore::of_stored(alloc, inodes, names, limits)
     }
 
-    /// The tree of these rows, with the names of all directories. No node has been worked on.
+    /// The tree of these inodes, with the names of all directories. No node has been worked on.
     pub fn of_stored(
         alloc: Global,
         inodes: Vec<Inode>,
@@ -368,8 +368,8 @@ impl InodeStore {
     }
 }
 
-/// The rows of these nodes, where no names are there yet; those of their directories come. The counts say how many entries
-/// give each number.
+/// The inodes of these nodes, where no names are there yet; those of their directories come. The counts say how many
+/// entries give each number.
 fn inodes_of(
     alloc: Global,
     nodes: Vec<NewNode>,
@@ -391,7 +391,7 @@ fn inodes_of(
     Ok(inodes)
 }
 
-/// The nodes of these rows and names as a list gives them.
+/// The nodes of these inodes and names as a list gives them.
 fn new_nodes(alloc: Global, inodes: &[Inode], names: &NameIndex) -> Result<Vec<NewNode>, AllocError>
     ensures { IfOk result (λ nodes. map node_data nodes.items ≡ map data_of_node (named_from names.now.names 0 (map stored_node inodes.now))) }
 {

@@ -2,7 +2,7 @@
 ghost use Rattle.std.specs.Prelude.{◌≡◌, ℕ, List, Option, length};
 ghost use Rattle.wasi_tree.specs.ParentOf.{parent_of, is_on_way};
 
-/// What tells in which directory each node stands.
+/// What knows in which directory each node stands.
 pub trait ParentLookup {
     /// The directory of each node, by its number.
     ghost known_parents: { Self → List (Option ℕ) };

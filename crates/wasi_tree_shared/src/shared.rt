@@ -21,7 +21,7 @@ use wasi_tree::MemTree;
 
 /// A tree in memory that others change: each change of a list is made before the host's call of its number, and those
 /// of one number in the list's order; `MemTree::change` says what a change does, and which are skipped. A change takes no
-/// memory, touches no node, and adds no look-up. No call fails by itself. It doesn't tell its tree, but what each call
+/// memory, touches no node, and adds no look-up. No call fails by itself. It isn't modelled, but what each call
 /// finds and leaves. Contracts see the tree in memory, the changes to come, and how many calls came.
 #[derive(Debug, Drop)]
 pub struct Shared {

@@ -1,7 +1,7 @@
 //! The calls of a view.
 ghost use Rattle.wasi_p2_calls.specs.Views.{FilesOwned, files_of};
 
-use crate::answers::{all_kept, first, flags, kept, resource, shown, time, rendered_read};
+use crate::answers::{all_kept, first, flags, kept, rendered_read, resource, shown, time};
 use test_support::{Asked, Rendered, number, unknown, word};
 use wasi_host::Host;
 use wasi_p2_calls::WasiFilesystemCtxView;

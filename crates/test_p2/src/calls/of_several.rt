@@ -2,7 +2,7 @@
 ghost use Rattle.std.specs.Prelude.{◌<◌, length};
 ghost use Rattle.test_p2.specs.AllOwned.{AllOwned, StayOwned};
 
-use crate::answers::{all_kept, first, flags, kept, resource, shown, time, rendered_read};
+use crate::answers::{all_kept, first, flags, kept, rendered_read, resource, shown, time};
 use test_support::{Asked, Rendered, number, unknown, word};
 use wasi_host::Host;
 use wasi_p2::{NamedId, WasiCtxNamedView, WasiFilesystemNamedView};

@@ -1,4 +1,4 @@
--- What holds of the rows of the calls on a descriptor itself.
+-- What holds of the specifications of the calls on a descriptor itself.
 use Rattle.std.proofs.Common.{ℕ, ◌≡◌, Bool, true, false, cond, [], refl, slice_get, Some, Ok, Err}
 use Rattle.std.specs.Prelude.{is_some}
 use Rattle.wasi_guest.specs.Flags.{flags_in, known_fdflags, known_rights}

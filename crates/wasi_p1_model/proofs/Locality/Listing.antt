@@ -1,4 +1,4 @@
--- What holds of the row of the call that lists a directory.
+-- What holds of the specification of the call that lists a directory.
 use Rattle.std.proofs.Common.{ℕ, List, length, [], refl, slice_get}
 use Rattle.wasi_guest.specs.declared.call.Call.TheVariants as calls
 use Rattle.wasi_p1_types.specs.Guest.{Guest}

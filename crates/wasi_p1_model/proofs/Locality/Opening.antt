@@ -1,4 +1,4 @@
--- What holds of the row of the call that opens a path.
+-- What holds of the specification of the call that opens a path.
 use Rattle.std.proofs.Common.{ℕ, [], slice_get, refl}
 use Rattle.wasi_fs.specs.OpenHow.{mode_of}
 use Rattle.wasi_guest.specs.declared.call.Call.TheVariants as calls

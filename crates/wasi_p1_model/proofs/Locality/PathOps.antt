@@ -1,4 +1,4 @@
--- What holds of the rows of the calls at the place that a path names.
+-- What holds of the specifications of the calls at the place that a path names.
 use Rattle.std.proofs.Common.{ℕ, ◌≡◌, true, List, length, [], ◌∷◌, refl, take, slice_get, Ok}
 use Rattle.wasi_guest.specs.declared.call.Call.{Call}
 use Rattle.wasi_guest.specs.declared.call.Call.TheVariants as calls

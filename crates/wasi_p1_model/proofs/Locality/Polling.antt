@@ -1,4 +1,4 @@
--- What holds of the row of the call that waits.
+-- What holds of the specification of the call that waits.
 use Rattle.std.proofs.Common.{ℕ, ◌+◌, ◌-◌, ◌*◌, nat_le, Bool, true, false, List, [], ◌∷◌, refl}
 use Rattle.std.specs.Prelude.{Contains}
 use Rattle.wasi_guest.specs.declared.call.Call.{Call}

@@ -1,4 +1,4 @@
--- What holds of the rows of the calls on a file's position, on its size, and on how it is stored.
+-- What holds of the specifications of the calls on a file's position, on its size, and on how it is stored.
 use Rattle.std.proofs.Common.{ℕ, ◌≡◌, [], refl, ap, slice_get, Option, Some, None}
 use Rattle.std.specs.Prelude.{ℤ}
 use Rattle.wasi_fs.specs.Calls.{may_do}

@@ -1,4 +1,4 @@
--- What holds of the rows of the calls that read and write by a number.
+-- What holds of the specifications of the calls that read and write by a number.
 use Rattle.std.proofs.Common.{ℕ, ◌≡◌, ◌+◌, List, length, [], ◌∷◌, refl, ap, slice_get, Some, Ok}
 use Rattle.std.specs.Prelude.{min}
 use Rattle.wasi_guest.specs.declared.answer.Value.{Value}

@@ -1,4 +1,4 @@
--- What holds of the rows of the calls that need no tree.
+-- What holds of the specifications of the calls that need no tree.
 use Rattle.std.proofs.Common.{ℕ, ◌≡◌, List, refl, slice_get}
 use Rattle.std.specs.Prelude.{All}
 use Rattle.wasi_guest.specs.declared.answer.Value.TheVariants.{Unit as Nothing}

@@ -1,4 +1,4 @@
--- What holds of the parts of rows, and of the ends that they share.
+-- What holds of the parts of specifications, and of the ends that they share.
 use Rattle.std.proofs.Common.{ℕ, ◌≡◌, ◌-◌, ◌*◌, nat_le, Bool, true, false, cond, List, [], ◌∷◌, refl, ap, sym, ◌∙◌, subst, slice_get, Option, Some, None, Ok, Err}
 use Rattle.std.specs.Prelude.{Contains, IfSome, IsUtf8}
 use Rattle.wasi_fs.specs.declared.perms.FsPerms.{FsPerms}
@@ -39,11 +39,11 @@ use Rattle.wasi_p1_types.proofs.Wanting.{IsRefusal, Never, guest_never, start_ne
 pub record AlwaysNear (g : Guest) (call : Call) (m : CallFront) : Type 0 where
   pub near : (fuel : ℕ) → IsLocal g call (m fuel).0
 
--- of a call's row
+-- of a call's specification
 abbrev pub SpecNear : Guest → Call → Type 0
 SpecNear g call = AlwaysNear g call (front g call)
 
--- ---- a part of a row, and what follows it
+-- ---- a part of a specification, and what follows it
 
 pub then : {A : Type 0} {g : Guest} {call : Call} {next : A → CallFront} (m : CallResult A) → Never m
     → ((x : A) → m ≡ Ok x → AlwaysNear g call (next x)) → AlwaysNear g call (free m >>= next)
@@ -156,7 +156,7 @@ pub start_perms : {d : OpenNode} (g : Guest) (fd : ℕ) → start_in (slice_get 
     → perms_in (slice_get g.slots fd) ≡ Some d.perms
 start_perms g fd = directory_perms errnos.Badf (slice_get g.slots fd)
 
--- ---- ends of rows
+-- ---- ends of specifications
 
 -- an answer, where descriptors stay and memory are bytes again
 pub answers_near : {g : Guest} {call : Call} (x : Value) (memory : List ℕ) (stock : GuestEnvModel) → stem_in call ≡ itself
@@ -187,7 +187,7 @@ pub asks_near : {g : Guest} {call : Call} {r : Request} {next : Reply r → Call
     → AlwaysNear g call (ask r next)
 asks_near near = record { near = λ fuel. near }
 
--- of a row that starts from a directory, and asks for something at a path
+-- of a specification that starts from a directory, and asks for something at a path
 pub starts_near : {d : OpenNode} {call : Call} (g : Guest) (fd n : ℕ) → Contains (descriptors_named g.memory call) fd
     → start_in (slice_get g.slots fd) ≡ Ok d → Contains (d.node ∷ []) n → IsNamed g call n
 starts_near = named_directory errnos.Badf
@@ -218,7 +218,7 @@ pub known_near : {A B : Type 0} {g : Guest} {call : Call} (part : B → CallResu
 known_near part next shown (Some known) never answers asks = then (part known) (never known) (λ x _. answers x)
 known_near part next shown None never answers asks = asks
 
--- what a row ends in leaves the guest, or refuses
+-- what a specification ends in leaves the guest, or refuses
 abbrev pub LeavesGuest : Guest → CallResult (Value × Guest) → Type 0
 LeavesGuest g (Ok p) = p.1 ≡ g
 LeavesGuest g (Err e) = IsRefusal e

@@ -1,4 +1,4 @@
--- What holds of a row that makes something, or makes a file longer, within a guest's quotas.
+-- What holds of a specification that makes something, or makes a file longer, within a guest's quotas.
 use Rattle.std.proofs.Common.{ℕ, ◌≡◌, Bool, true, false, cond, refl, sym, ◌∙◌, subst, List, Option, Some, None, Ok, Err}
 use Rattle.wasi_guest.specs.declared.answer.Value.{Value}
 use Rattle.wasi_guest.specs.declared.call.Call.{Call}
@@ -77,7 +77,7 @@ made_near g call true (Ok (asking r next)) near = by (may_make g.holdings) (make
       bytes = λ are reply gives. counted_bytes making_used (next reply) (near.bytes are reply gives);
     }
 
--- a row that makes something
+-- a specification that makes something
 pub making_near : {g : Guest} {call : Call} {m : CallFront} (makes : Bool) → AlwaysNear g call m
     → AlwaysNear g call (making makes g m)
 making_near {g} {call} {m} makes near = record { near = λ fuel. made_near g call makes (m fuel).0 (near.near fuel) }
@@ -135,7 +135,7 @@ grown_near g call (Some limit) (Ok (asking w next)) near = record {
     bytes are (Some (growth, reply)) gives =
         counted_bytes (growth_used growth) (next reply) (near.bytes are reply gives)
 
--- a row that writes a file or gives it a size
+-- a specification that writes a file or gives it a size
 pub growing_near : {g : Guest} {call : Call} {m : CallFront} (limit : Option Allowance) → AlwaysNear g call m
     → AlwaysNear g call (growing limit m)
 growing_near {g} {call} {m} limit near = record { near = λ fuel. grown_near g call limit (m fuel).0 (near.near fuel) }

@@ -1,4 +1,4 @@
--- What holds of the rows of the calls that set times.
+-- What holds of the specifications of the calls that set times.
 use Rattle.std.proofs.Common.{ℕ, [], refl, slice_get}
 use Rattle.wasi_guest.specs.declared.call.Call.TheVariants as calls
 use Rattle.wasi_p1_types.specs.Guest.{Guest}

@@ -1,4 +1,4 @@
--- What holds of the rows of the calls at the places that two paths name.
+-- What holds of the specifications of the calls at the places that two paths name.
 use Rattle.std.proofs.Common.{ℕ, ◌≡◌, List, [], ◌∷◌, refl, ap, sym, ◌∙◌, subst, arith, slice_get, Option, Some, Ok}
 use Rattle.std.specs.Prelude.{Contains, IfSome}
 use Rattle.wasi_fs.specs.declared.perms.FsPerms.{FsPerms}

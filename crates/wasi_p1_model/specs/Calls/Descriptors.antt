@@ -1,4 +1,4 @@
--- The rows of the calls on a descriptor itself.
+-- The specifications of the calls on a descriptor itself.
 use Rattle.std.specs.Prelude.{ℕ, length, slice_get, slice_set, is_some, if◌then◌else◌, Err}
 use Rattle.wasi_guest.specs.Flags.{flags_in, known_fdflags, known_rights}
 use Rattle.wasi_guest.specs.declared.answer.Value.TheVariants.{Number, Fdstat, Filestat, Unit as Nothing}
@@ -86,8 +86,8 @@ fd_prestat_dir_name g fd path path_len = do
   memory ← free (name_into g.memory path name path_len)
   answer (Nothing, record g { memory = memory })
 
--- a number that isn't live is refused; then what `to` stood for is closed, what stands under `from` gets its number, and
--- `from` is closed; of one number nothing changes
+-- a number that isn't live is refused; then what `to` stood for is closed, what stands under `from` gets its number,
+-- and `from` is closed; of one number nothing changes
 unfoldable pub fd_renumber : Guest → ℕ → ℕ → CallFront
 fd_renumber g from to = do
   _ ← free (live_in (slice_get g.slots from))

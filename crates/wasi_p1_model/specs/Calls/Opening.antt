@@ -1,4 +1,4 @@
--- The row of the call that opens a path.
+-- The specification of the call that opens a path.
 use Rattle.std.specs.Prelude.{ℕ, slice_get}
 use Rattle.wasi_fs.specs.Calls.{opens}
 use Rattle.wasi_fs.specs.OpenHow.{may_open, mode_of}

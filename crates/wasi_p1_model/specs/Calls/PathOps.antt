@@ -1,4 +1,4 @@
--- The rows of the calls at the place that a path names.
+-- The specifications of the calls at the place that a path names.
 use Rattle.std.specs.Prelude.{ℕ, true, take, slice_get}
 use Rattle.wasi_fs.specs.Calls.{may_do, may_link}
 use Rattle.wasi_fs.specs.declared.perms.Act.{Act}
@@ -30,8 +30,8 @@ path_filestat_get g fd flags path len = do
   at_path g fd path len (λ d text. ask (Path (LookPath d.node text follow)) (told_of g))
 
 -- As the walk of the text refuses, and the host at its place, and a text with a root; then a range that leaves the
--- memory traps, as long as the link's text and no longer than the buffer. The answer is its length, and that much of the
--- link's text stands there
+-- memory traps, as long as the link's text and no longer than the buffer. The answer is its length, and that much of
+-- the link's text stands there
 unfoldable pub path_readlink : Guest → ℕ → ℕ → ℕ → ℕ → ℕ → CallFront
 path_readlink g fd path len buf buf_len = at_path g fd path len
     (λ d text. ask (Path (AtEntry d.node text ReadLink)) (λ link. link_into g buf (take buf_len link)))

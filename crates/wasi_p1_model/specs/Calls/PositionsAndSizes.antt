@@ -1,4 +1,4 @@
--- The rows of the calls on a file's position, on its size, and on how it is stored.
+-- The specifications of the calls on a file's position, on its size, and on how it is stored.
 use Rattle.std.specs.Prelude.{ℕ, slice_get, ℤ, Option, None, Err}
 use Rattle.wasi_fs.specs.Calls.{may_do}
 use Rattle.wasi_fs.specs.declared.perms.Act.TheVariants.{Alter}

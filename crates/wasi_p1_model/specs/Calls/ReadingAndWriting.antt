@@ -1,4 +1,4 @@
--- The rows of the calls that read and write by a number.
+-- The specifications of the calls that read and write by a number.
 use Rattle.std.specs.Prelude.{ℕ, ◌+◌, min, List, length, slice_get}
 use Rattle.wasi_guest.specs.Range.{with_bytes}
 use Rattle.wasi_guest.specs.declared.answer.Value.TheVariants.{Number}
@@ -27,16 +27,16 @@ unfoldable pub fd_pread : Guest → ℕ → ℕ → ℕ → ℕ → CallFront
 fd_pread g fd iovs n offset = at_buffer g (read_place_in g.slots g.table_max (slice_get g.slots fd)) iovs n
     (λ f buffer _. read_into g f offset buffer)
 
--- a piece goes into a file, as its host refuses, and before that read-only permissions `badf`, and what passes the bound
--- on bytes `dquot`: behind the last byte in append mode, and else from an offset on
+-- a piece goes into a file, as its host refuses, and before that read-only permissions `badf`, and what passes the
+-- bound on bytes `dquot`: behind the last byte in append mode, and else from an offset on
 abbrev pub write_into : Guest → OpenFile → ℕ → List ℕ → CallFront
 write_into g f offset piece = do
   _ ← free (may_write f.perms)
   growing (allowance g.holdings f.open_mode) (ask (Direct (put_call f.modes.append (held_by f) offset piece))
       (λ answer. give (Number (count_in f.modes.append (held_by f) offset piece answer), g)))
 
--- of a number that is a file's, and not an output's; the position stays, and the answer is the number of bytes that were
--- taken
+-- of a number that is a file's, and not an output's; the position stays, and the answer is the number of bytes that
+-- were taken
 unfoldable pub fd_pwrite : Guest → ℕ → ℕ → ℕ → ℕ → CallFront
 fd_pwrite g fd iovs n offset =
     at_buffer g (file_in WriteAt (slice_get g.slots fd)) iovs n (λ f _ piece. write_into g f offset piece)
@@ -58,9 +58,9 @@ unfoldable pub fd_read : Guest → ℕ → ℕ → ℕ → CallFront
 fd_read g fd iovs n =
     at_buffer g (read_target_in (slice_get g.slots fd)) iovs n (λ source buffer _. read_from g fd source buffer)
 
--- A piece goes to an output, or into a file, as its host refuses, and before that read-only permissions `badf`, and what
--- passes the bound on bytes `dquot`. The position is behind the bytes; in append mode they go behind the last byte, and
--- the position is the file's size
+-- A piece goes to an output, or into a file, as its host refuses, and before that read-only permissions `badf`, and
+-- what passes the bound on bytes `dquot`. The position is behind the bytes; in append mode they go behind the last
+-- byte, and the position is the file's size
 abbrev pub write_to : Guest → ℕ → WriteTarget → List ℕ → CallFront
 write_to g fd (output o) piece =
     answer (Number (length piece), record g { holdings = written g.holdings o piece })

@@ -1,4 +1,4 @@
--- The rows of the calls that need no tree.
+-- The specifications of the calls that need no tree.
 use Rattle.std.specs.Prelude.{ℕ, List, slice_get, Err}
 use Rattle.wasi_guest.specs.Flags.{flags_in, known_fdflags, known_riflags, known_sdflags}
 use Rattle.wasi_guest.specs.Range.{with_bytes}

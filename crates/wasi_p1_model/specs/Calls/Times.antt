@@ -1,4 +1,4 @@
--- The rows of the calls that set times.
+-- The specifications of the calls that set times.
 use Rattle.std.specs.Prelude.{ℕ, slice_get}
 use Rattle.wasi_fs.specs.Calls.{may_do}
 use Rattle.wasi_fs.specs.declared.perms.Act.TheVariants.{Alter}

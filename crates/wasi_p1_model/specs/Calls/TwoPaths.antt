@@ -1,4 +1,4 @@
--- The rows of the calls at the places that two paths name.
+-- The specifications of the calls at the places that two paths name.
 use Rattle.std.specs.Prelude.{ℕ, slice_get, Option}
 use Rattle.wasi_fs.specs.Calls.{may_rename, may_add_name}
 use Rattle.wasi_fs.specs.declared.perms.FsPerms.{FsPerms}
@@ -11,8 +11,8 @@ use Rattle.wasi_p1_types.specs.Request.{Path}
 use Rattle.wasi_resolve.specs.TwoPathOps.{TwoPathOp, HardLink, Rename}
 use Rattle.wasi_resolve.specs.PathRequest.{AtTwo}
 
--- A number that isn't a directory's is refused, the old one first, and the texts so; then what isn't permitted below the
--- two directories; then as the walks of the texts refuse, the old one first, and the host at the places
+-- A number that isn't a directory's is refused, the old one first, and the texts so; then what isn't permitted below
+-- the two directories; then as the walks of the texts refuse, the old one first, and the host at the places
 abbrev pub done_between : Guest → ℕ → ℕ → ℕ → ℕ → ℕ → ℕ → (FsPerms → FsPerms → Option ErrorCode) → TwoPathOp
     → CallFront
 done_between g old_fd old_path old_len new_fd new_path new_len own what = do

@@ -49,7 +49,7 @@ returns-in-Some-refuse_move-clause-refusal g c =
     (sym (moving_refuses (held g at.In_ok-node) (loops g at.In_default) (sym c.if-holds_node.ensures)
     ∙ sym c.in-Some-refuse_move.ensures))
 
--- no row refuses
+-- no rule refuses
 free : (g : Over) (c : In_default-refuse_move g)
     → first_rule (loop_rules (g.S.NodeStore.seen c.args.store.now).tree c.args.from.now.directory c.args.to.now.directory (Some c.in_ok-node.node)
     c.args.to.now.found) ≡ None

@@ -13,7 +13,7 @@ returns-in-Ok-clause-live g c =
     rw (← c.self.view_is) (c.close.ensures.live ∙ ap (λ s. remove s c.in-Ok.handle) c.in-Ok.ensures.live.1
     ∙ remove-insert _ _ c.in-Ok.ensures.live.0)
 
--- the handle was got and closed again; what is between is the world after the open
+-- the handle was got and closed again; what is between is the model after the open
 pub returns-in-Ok-clause-modelled : goal.returns-in-Ok-clause-modelled
 returns-in-Ok-clause-modelled g c = λ modelled.
     rw (← c.self.view_is) (told_closed (λ h old. rw c.in-Ok.ensures.live.1 (grind (arith, members, nat_tests)))

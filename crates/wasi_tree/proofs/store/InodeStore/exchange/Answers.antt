@@ -29,7 +29,7 @@ renamed c is =
 marked : (c : After-mark-2) → c.mark-2.new.self.nodes ≡ insert (insert c.self.inside.worked.nodes c.args.new) c.args.old
 marked c = c.mark-2.ensures.nodes ∙ ap (λ (ns : Nodes). insert ns c.args.old) c.mark.ensures.nodes
 
--- the tree that the rows and names then stand for
+-- the tree that the inodes and names then stand for
 now : (c : After-mark-2) → maps.get c.self.inside.names.names (c.args.old, c.as_str.result.now) ≡ Some c.args.node
     → stored_tree c.self.inside.inodes.items c.rename.new.self.names c.self.inside.limits c.mark-2.new.self.nodes
     ≡ exchanged c.args.self.now c.args.old (name_bytes c.args.old_name) c.args.new (string_bytes c.args.new_name) c.args.node
