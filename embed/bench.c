@@ -6,7 +6,7 @@
 #include <time.h>
 
 #include "guest.h"
-#include "wasm2c.h"
+#include "zurgwenad/wasm2c.h"
 
 #define SCRIPT "{\"nodes\": [{\"dir\": {}}], \"calls\": [], " \
                "\"preopens\": [{\"node\": 0, \"name\": \"/\", \"perms\": \"rw\"}]}"

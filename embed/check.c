@@ -4,7 +4,8 @@
 #include <stdlib.h>
 #include <string.h>
 
-#include "calls.h"
+#include "zurgwenad/calls.h"
+#include "zurgwenad/names.h"
 
 #define SCRIPT "{\"nodes\": [{\"dir\": {\"f\": 1}}, {\"file\": \"746f70\"}], " \
                "\"preopens\": [{\"node\": 0, \"name\": \"/\", \"perms\": \"rw\"}], \"calls\": [], \"random\": \"5a\"}"
@@ -12,9 +13,6 @@
 #define QUOTA "{\"nodes\": [{\"dir\": {\"f\": 1}}, {\"file\": \"746f70\"}], " \
               "\"preopens\": [{\"node\": 0, \"name\": \"/\", \"perms\": \"rw\"}], \"calls\": [], " \
               "\"quota\": {\"nodes\": 1, \"bytes\": 9}}"
-#define NOENT 44
-#define BADF 8
-#define DQUOT 19
 #define PAGE 65536
 #define ROUNDS 20000
 
@@ -99,7 +97,7 @@ static void of_results(void) {
     wasi_sandbox sandbox = {0};
     uint8_t *memory = calloc(1, PAGE);
     start(&sandbox, SCRIPT);
-    need(wasi_fd_close(&sandbox, memory, PAGE, 77) == BADF, "an error number");
+    need(wasi_fd_close(&sandbox, memory, PAGE, 77) == WASI_ERRNO_BADF, "an error number");
     need(open_path(&sandbox, memory, "f", 0) == 0 && memory[16] == 4, "a descriptor");
     need(wasi_fd_tell(&sandbox, memory, PAGE, 4, 12) == WASI_TRAP_POINTER, "an address that isn't aligned");
     need(wasi_fd_tell(&sandbox, memory, PAGE, 4, PAGE) == WASI_TRAP_POINTER, "an address behind the memory");
@@ -109,6 +107,9 @@ static void of_results(void) {
     need(wasi_proc_exit(&sandbox, memory, PAGE, 125) == WASI_EXIT, "an exit");
     need(wasi_answered(&sandbox) == 5, "how many were answered: three had no place for their result, and weren't made");
     wasi_end(&sandbox);
+    need(strcmp(wasi_code_text(WASI_ERRNO_BADF), "badf: the descriptor isn't open, or isn't of the right kind") == 0, "a text");
+    need(strcmp(wasi_code_text(WASI_TRAP_EXIT), "the guest ended with a status of 126 or more") == 0, "a text of our own");
+    need(strcmp(wasi_code_text(255), "no answer has this number") == 0, "the text of no answer");
     start(&sandbox, SCRIPT);
     need(wasi_proc_exit(&sandbox, memory, PAGE, 126) == WASI_TRAP_EXIT, "a status that traps");
     wasi_end(&sandbox);
@@ -135,7 +136,7 @@ static void of_numbers(void) {
     }
     need(wasi_answered(&sandbox) == CALL_COUNT, "each of these was answered");
     const uint64_t more[] = {((uint64_t)7 << 32) + 77, 1, 2, 3, 4, 5, 6, 7, 8, 9, 10};
-    need(wasi_call(&sandbox, memory, PAGE, 8, more, 11) == BADF, "the words behind the last");
+    need(wasi_call(&sandbox, memory, PAGE, 8, more, 11) == WASI_ERRNO_BADF, "the words behind the last");
     wasi_end(&sandbox);
     free(memory);
 }
@@ -146,8 +147,8 @@ static void of_two(void) {
     start(&first, SCRIPT);
     start(&second, SCRIPT);
     need(open_path(&first, memory, "new", 1) == 0, "a file in the first");
-    need(open_path(&second, memory, "new", 0) == NOENT, "none in the second");
-    need(wasi_fd_close(&second, memory, PAGE, 4) == BADF, "no descriptor in the second");
+    need(open_path(&second, memory, "new", 0) == WASI_ERRNO_NOENT, "none in the second");
+    need(wasi_fd_close(&second, memory, PAGE, 4) == WASI_ERRNO_BADF, "no descriptor in the second");
     wasi_end(&first);
     need(open_path(&second, memory, "f", 0) == 0, "the second goes on");
     wasi_end(&second);
@@ -167,8 +168,8 @@ static void of_quotas(void) {
     need(open_path(&sandbox, memory, "f", 1) == 0 && has_used(&sandbox, 1, 0), "an open that creates");
     need(wasi_fd_filestat_set_size(&sandbox, memory, PAGE, 4, 7) == 0 && has_used(&sandbox, 1, 4), "a larger size");
     need(wasi_fd_filestat_set_size(&sandbox, memory, PAGE, 4, 0) == 0 && has_used(&sandbox, 1, 4), "a smaller one");
-    need(wasi_fd_filestat_set_size(&sandbox, memory, PAGE, 4, 6) == DQUOT && has_used(&sandbox, 1, 4), "grown bytes");
-    need(open_path(&sandbox, memory, "f", 1) == DQUOT && has_used(&sandbox, 1, 4), "makings");
+    need(wasi_fd_filestat_set_size(&sandbox, memory, PAGE, 4, 6) == WASI_ERRNO_DQUOT && has_used(&sandbox, 1, 4), "grown bytes");
+    need(open_path(&sandbox, memory, "f", 1) == WASI_ERRNO_DQUOT && has_used(&sandbox, 1, 4), "makings");
     wasi_end(&sandbox);
     start(&sandbox, SCRIPT);
     need(open_path(&sandbox, memory, "g", 1) == 0 && has_used(&sandbox, 0, 0), "no bound, and no count");

@@ -9,7 +9,7 @@
 
 #include "guest.h"
 #include "wasm-rt-impl.h"
-#include "wasm2c.h"
+#include "zurgwenad/wasm2c.h"
 
 #define STOPPED 134
 

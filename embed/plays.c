@@ -5,7 +5,8 @@
 #include <stdlib.h>
 #include <string.h>
 
-#include "wasi.h"
+#include "zurgwenad/names.h"
+#include "zurgwenad/wasi.h"
 
 enum {
     PAGE = 65536,
@@ -22,7 +23,6 @@ enum {
 enum { RIGHT_READ = 2, RIGHT_WRITE = 64, CREAT = 1, DIRECTORY = 2 };
 
 /// Error numbers of preview1.
-enum { BADF = 8, NOENT = 44, NOTSOCK = 57, PERM = 63, SPIPE = 70 };
 
 static unsigned differed;
 
@@ -144,8 +144,8 @@ static void files(struct guest *guest) {
     hold("the length of the name", number(guest, ROOM + 25 + 26 + 16, 4), 1);
     hold("the type of what it names", memory[ROOM + 25 + 26 + 20], 4);
     hold("the name", memory[ROOM + 25 + 26 + 24], 'n');
-    hold("fd_tell of a stream", wasi_fd_tell(sandbox, memory, len, 1, STAT), SPIPE);
-    hold("fd_close of no descriptor", wasi_fd_close(sandbox, memory, len, 77), BADF);
+    hold("fd_tell of a stream", wasi_fd_tell(sandbox, memory, len, 1, STAT), WASI_ERRNO_SPIPE);
+    hold("fd_close of no descriptor", wasi_fd_close(sandbox, memory, len, 77), WASI_ERRNO_BADF);
 
     hold("args_sizes_get", wasi_args_sizes_get(sandbox, memory, len, ANSWER, SECOND), 0);
     hold("how many arguments", number(guest, ANSWER, 4), 2);
@@ -191,21 +191,21 @@ static void services(struct guest *guest) {
     hold("poll_oneoff", wasi_poll_oneoff(sandbox, memory, len, ROOM, ROOM + 64, 1, SECOND), 0);
     hold("how many events", number(guest, SECOND, 4), 1);
     hold("whose it is", number(guest, ROOM + 64, 8), 7);
-    hold("sock_recv", wasi_sock_recv(sandbox, memory, len, 3, BUFFER, 1, 0, ANSWER, SECOND), NOTSOCK);
+    hold("sock_recv", wasi_sock_recv(sandbox, memory, len, 3, BUFFER, 1, 0, ANSWER, SECOND), WASI_ERRNO_NOTSOCK);
 }
 
 /// Paths that would leave the directory that the guest was given.
 static void escapes(struct guest *guest) {
-    hold("..", open_at(guest, "..", 0, RIGHT_READ), PERM);
-    hold("a path by `..`", open_at(guest, "d/../../home", 0, RIGHT_READ), PERM);
-    hold("an absolute path", open_at(guest, "/home/d", 0, RIGHT_READ), PERM);
-    hold("a link that leads above", open_at(guest, "up", 0, RIGHT_READ), PERM);
-    hold("a link to the root", open_at(guest, "root/secret", 0, RIGHT_READ), PERM);
+    hold("..", open_at(guest, "..", 0, RIGHT_READ), WASI_ERRNO_PERM);
+    hold("a path by `..`", open_at(guest, "d/../../home", 0, RIGHT_READ), WASI_ERRNO_PERM);
+    hold("an absolute path", open_at(guest, "/home/d", 0, RIGHT_READ), WASI_ERRNO_PERM);
+    hold("a link that leads above", open_at(guest, "up", 0, RIGHT_READ), WASI_ERRNO_PERM);
+    hold("a link to the root", open_at(guest, "root/secret", 0, RIGHT_READ), WASI_ERRNO_PERM);
     hold("path_symlink to an absolute path",
          wasi_path_symlink(&guest->sandbox, guest->memory, guest->len, TEXT, text(guest, TEXT, "/secret"), 3, PATH,
-                           text(guest, PATH, "mine")), PERM);
+                           text(guest, PATH, "mine")), WASI_ERRNO_PERM);
     hold("path_rename to above", wasi_path_rename(&guest->sandbox, guest->memory, guest->len, 3, PATH,
-                                                  text(guest, PATH, "d"), 3, TEXT, text(guest, TEXT, "../d")), PERM);
+                                                  text(guest, PATH, "d"), 3, TEXT, text(guest, TEXT, "../d")), WASI_ERRNO_PERM);
 }
 
 /// A trap leaves the memory, and no answer is counted where an address of a result is the cause.
@@ -295,7 +295,7 @@ int main(void) {
     services(&one);
     escapes(&one);
     traps(&one);
-    hold("what one made isn't in the other", open_at(&other, "d", 0, RIGHT_READ), NOENT);
+    hold("what one made isn't in the other", open_at(&other, "d", 0, RIGHT_READ), WASI_ERRNO_NOENT);
     hold("the other has answered one call", wasi_answered(&other.sandbox), 1);
 
     uint8_t *more = realloc(one.memory, 2 * PAGE);
@@ -305,7 +305,7 @@ int main(void) {
     one.memory = more;
     one.len = 2 * PAGE;
     memset(one.memory + PAGE, 0, PAGE);
-    hold("a result in memory that grew", wasi_fd_tell(&one.sandbox, one.memory, one.len, 1, PAGE), SPIPE);
+    hold("a result in memory that grew", wasi_fd_tell(&one.sandbox, one.memory, one.len, 1, PAGE), WASI_ERRNO_SPIPE);
     hold("sched_yield", wasi_sched_yield(&one.sandbox, one.memory, one.len), 0);
     reports(&one);
 

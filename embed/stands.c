@@ -4,7 +4,7 @@
 #include <stdlib.h>
 #include <string.h>
 
-#include "wasi.h"
+#include "zurgwenad/wasi.h"
 
 enum { MEMORY = 1024, BUFFER = 0, ANSWER = 16, PATH = 64, TEXT = 128, ROOM = 512, NUMBERS = 16 };
 

@@ -5,7 +5,7 @@
 #include <stdlib.h>
 #include <string.h>
 
-#include "wasi.h"
+#include "zurgwenad/wasi.h"
 
 enum { MEMORY = 1024, STEPS = 9 };
 

@@ -27,7 +27,7 @@ def build(words: List[str]) -> None:
 def by_node(guest: str, script: Path, report: Path, job: Optional[Path] = None) -> int:
     """Runs a guest; with a job its calls are written down too."""
     addon, folder = EMBED / "node/out/wasi.node", EMBED / "node"
-    if is_older(addon, [LIBRARY, folder / "addon.c", EMBED / "calls.h", EMBED / "wasi.h"]):
+    if is_older(addon, [LIBRARY, folder / "addon.c", EMBED / "zurgwenad/calls.h", EMBED / "zurgwenad/wasi.h"]):
         build([str(folder / "build"), str(LIBRARY)])
     words = ["node", "--no-warnings", folder / "run.js", guest, script, report, *([job] if job else [])]
     return subprocess.run([str(word) for word in words]).returncode

@@ -7,7 +7,7 @@
 #include <stdlib.h>
 #include <string.h>
 
-#include "calls.h"
+#include "zurgwenad/calls.h"
 
 #define MOST_REPORTED ((size_t)1 << 16)  // bytes of a report for which room is made before its length is asked for
 

@@ -46,7 +46,7 @@ macro_rules! taking {
     }};
 }
 
-/// The calls about what a resource stands for.
+/// The calls about what a resource refers to.
 macro_rules! about {
     ($files:ident ($($id:ident)?) $asked:ident $given:ident $left:expr) => {{
         let alloc = $asked.alloc;

@@ -1,16 +1,16 @@
 //! The program `test_run_calls`: reports of scripts, by `run_script` and by the calls that it stands on.
 //!
-//! Called with no words, it reads scripts from its standard input, a line each, and runs each with every one of its first
-//! twelve host calls failing in turn, before it is made and after: where `FAULTS` stands in a script, the fault is put. The
-//! report that `run_script` writes has to be the one that `report` gives of what `run_calls` comes to over a tree in memory
-//! whose calls fail so.
+//! Called with no words, it reads scripts from its standard input, a line each, and runs each with every one of its
+//! first twelve host calls failing in turn, before it is made and after: where `FAULTS` stands in a script, the fault
+//! is put. The report that `run_script` writes has to be the one that `report` gives of what `run_calls` comes to over
+//! a tree in memory whose calls fail so.
 //!
-//! Called with the word `refused`, by a tool that refuses a request for memory, it runs each script by `run_calls`; where
-//! memory was wanted it makes the calls again that weren't answered, and holds what comes of it against a run in which
-//! nothing was refused. It ends with status 3 where memory was wanted elsewhere.
+//! Called with the word `refused`, by a tool that refuses a request for memory, it runs each script by `run_calls`;
+//! where memory ran out it makes the calls again that weren't answered, and holds what comes of it against a run in
+//! which nothing was refused. It ends with status 3 if memory ran out elsewhere.
 //!
-//! Called with the word `made`, by the same tool, it reads nothing, and makes the script of `gen 100`, of which nothing is
-//! run: so the requests for memory of that alone can be counted. It ends with status 3 where memory was wanted.
+//! Called with the word `made`, by the same tool, it reads nothing, and makes the script of `gen 100`, of which nothing
+//! is run: so the requests for memory of that alone can be counted. It ends with status 3 if memory ran out.
 //!
 //! Empty lines and those that begin with `#` are nothing.
 #![tactic(auto)]
@@ -41,7 +41,7 @@ enum Way {
     Made,
 }
 
-// What the first word behind the program's name asks for.
+// What the first word after the program's name asks for.
 fn way_asked(rt: &HostRuntime) -> io::Result<Way> {
     let mut words = env::args(rt)?;
     let _program = words.next();

@@ -12,7 +12,7 @@ enum Tried {
     NoScript,
     /// All its calls were answered.
     Answered,
-    /// Memory was wanted behind so many answers. Whether it went on from there as a run in which nothing was refused.
+    /// Memory ran out after so many answers. Whether it went on from there as a run in which nothing was refused.
     Wanted { answered: usize, went_on: bool },
 }
 
@@ -31,7 +31,7 @@ fn goes_on(
     }
 }
 
-// Runs a script, and goes on where memory was wanted.
+// Runs a script, and goes on if memory ran out.
 fn try_script(alloc: Global, script: &[u8]) -> Result<Tried, AllocError> {
     let Some(mut run) = Begun::of(alloc, script)? else {
         return Ok(Tried::NoScript);

@@ -19,8 +19,8 @@ pub struct Begun {
     show: Vec<Shown>,
 }
 
-/// What became of a script: its answers; its report, with no answers, nothing shown of the memory and no nodes touched; and
-/// the bytes of the memory.
+/// What became of a script: its answers; its report, with no answers, nothing shown of the memory and no nodes touched;
+/// and the bytes of the memory.
 #[derive(Drop)]
 pub struct Ended {
     answers: Answers,
@@ -50,7 +50,7 @@ fn ends(whole: &Answers, place: usize, last: &Answers) -> bool {
     true
 }
 
-// The calls behind the first ones.
+// The calls after the first ones.
 fn without_first(alloc: Global, calls: &Vec<Call>, count: usize) -> Result<Vec<Call>, AllocError> {
     let left = calls.as_slice().get(count..).unwrap_or(&[]);
     left.to_vec(alloc)

@@ -46,7 +46,7 @@ fn count(
     }
 }
 
-// Takes a line behind those before it, of which a row may be open: the row that is open then.
+// Takes a line after those before it, of which a row may be open: the row that is open then.
 fn next_line<'a>(
     rt: &HostRuntime,
     tally: &mut Tally,

@@ -1,7 +1,7 @@
 //! Texts that are written shorter.
 use std::alloc::{AllocError, Global};
 
-// What a text behind `{{` stands for, if it begins with `COUNT TEXT}}`.
+// What a text after `{{` stands for, if it begins with `COUNT TEXT}}`.
 fn repeated(alloc: Global, text: &str) -> Result<Option<String>, AllocError> {
     let Some((counted, rest)) = text.split_once("}}") else {
         return Ok(None);

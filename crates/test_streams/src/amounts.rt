@@ -104,7 +104,7 @@ fn opened<H: Host>(host: &mut H, root: Handle, name: &str, write: bool) -> Resul
     Ok(File::new(handle, FsPerms::ReadWrite, OpenMode::READ))
 }
 
-/// Reads chunk by chunk to the end, and writes each behind the one before.
+/// Reads chunk by chunk to the end, and writes each after the one before.
 fn copy<H: Host>(
     host: &mut H,
     mut input: FileInputStream,

@@ -14,7 +14,7 @@ use wasi_host::{Handle, Host, HostError};
 use wasi_streams::{FileOutputStream, StreamError};
 
 /// `OFFSET: CALL; CALL ..`: the answers of calls of a stream from this offset on, and then the file's text. The offset
-/// `end` is behind the file's last byte.
+/// `end` is after the file's last byte.
 #[tactic(auto, using(wasi_host::proofs::Chain::live_rules))]
 pub fn output_line<H: Host>(host: &mut H, file: &File, asked: &Asked<'_>) -> Rendered
     requires { contains (H.live host.old) file.now.file ≡ true }

@@ -6,7 +6,7 @@ use std::str::FromStr;
 /// What a line is answered.
 pub type Rendered = Result<String, AllocError>;
 
-/// What a text asks: its first word, what is left behind it, and what an answer takes memory from.
+/// What a text asks: its first word, what is left after it, and what an answer takes memory from.
 #[derive(Clone, Copy)]
 pub struct Asked<'a> {
     pub alloc: Global,
@@ -21,8 +21,8 @@ impl<'a> Asked<'a> {
     }
 }
 
-/// The first word of a text, and what is left. Blanks stand between words. A word in quotes may be empty or have blanks,
-/// and is given without them.
+/// The first word of a text, and what is left. Blanks stand between words. A word in quotes may be empty or have
+/// blanks, and is given without them.
 pub fn word(text: &str) -> (&str, &str) {
     let Some(quoted) = text.strip_prefix('"') else {
         return text.split_once(' ').unwrap_or((text, ""));

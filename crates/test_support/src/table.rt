@@ -18,7 +18,7 @@ enum Tried {
     Agrees,
     /// Some lines aren't so.
     Differs,
-    /// The table wasn't read or is no text, its outcome wasn't written, or memory was wanted.
+    /// The table wasn't read or is no text, its outcome wasn't written, or memory ran out.
     Unfinished,
 }
 
@@ -33,8 +33,8 @@ impl Tried {
     }
 }
 
-/// Tries the table on a program's standard input. Of each line that isn't so what came goes to its standard output, with
-/// the line and its number, and then how many are so.
+/// Tries the table on a program's standard input. Of each line that isn't so what came goes to its standard output,
+/// with the line and its number, and then how many are so.
 pub fn try_table<A: Answering>(
     alloc: Global,
     stdin: Stdin,
@@ -127,7 +127,7 @@ fn is_answered<A: Answering>(
     Ok(false)
 }
 
-// Adds a text with so many letters in the place of each `x{N}`, and with a NUL in the place of each `\0`.
+// Adds a text with so many letters in place of each `x{N}`, and with a NUL in place of each `\0`.
 fn spell_out(text: &str, row: &mut String) -> Result<(), AllocError> {
     for part in text.split("x{") {
         let (count, rest) = counted(part);
@@ -139,7 +139,7 @@ fn spell_out(text: &str, row: &mut String) -> Result<(), AllocError> {
     Ok(())
 }
 
-// Adds a text with a NUL in the place of each `\0`.
+// Adds a text with a NUL in place of each `\0`.
 fn push_text(text: &str, row: &mut String) -> Result<(), AllocError> {
     for (before, part) in text.split("\\0").enumerate() {
         if before > 0 {
@@ -150,7 +150,7 @@ fn push_text(text: &str, row: &mut String) -> Result<(), AllocError> {
     Ok(())
 }
 
-// The number up to a brace, and the text behind it; of any other text, 0 and the text.
+// The number up to a brace, and the text after it; of any other text, 0 and the text.
 fn counted(part: &str) -> (u16, &str) {
     let Some((digits, rest)) = part.split_once('}') else {
         return (0, part);

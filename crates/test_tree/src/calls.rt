@@ -64,7 +64,7 @@ fn pair(tree: &mut MemTree, it: Handle, old: Handle, asked: &Asked<'_>) -> Rende
     }
 }
 
-/// Gives what the old name holds the new one too, or moves it there; a slash behind the new one asks for a directory.
+/// Gives what the old name holds the new one too, or moves it there; a slash after the new one asks for a directory.
 pub fn at_two<H: Host>(
     host: &mut H,
     what: &str,
@@ -135,7 +135,7 @@ fn look<H: Host>(host: &mut H, start: Handle, asked: &Asked<'_>) -> Rendered
     }
 }
 
-/// A call of what a handle stands for.
+/// A call of what a handle refers to.
 fn held_call<H: Host>(host: &mut H, held: Handle, asked: &Asked<'_>) -> Rendered
     requires { contains (H.live host.old) held ≡ true }
     ensures { H.live host.new ≡ H.live host.old }

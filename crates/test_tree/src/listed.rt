@@ -29,7 +29,7 @@ fn content(alloc: Global, text: &str) -> Result<NewContent, AllocError> {
     Ok(NewContent::Dir(entries(alloc, text)?))
 }
 
-// Sets the bits that stand behind `!` and the times that stand behind `?`.
+// Sets the bits that stand after `!` and the times that stand after `?`.
 fn set_attributes(node: &mut NewNode, attributes: &str) {
     let (bits, times) = attributes.split_once('?').unwrap_or((attributes, ""));
     if !bits.is_empty() {
@@ -46,9 +46,9 @@ fn set_attributes(node: &mut NewNode, attributes: &str) {
     node.btime = time_of(btime).unwrap_or(SystemTime::EPOCH);
 }
 
-/// The nodes that a text gives, between blanks: a file's text behind `:` or its bytes behind `%`, a link's text behind
-/// `@`, or a directory's entries, of which `-` has none. Bits stand behind `!`, where they aren't those of a new node, and
-/// the three times behind a `?` after that.
+/// The nodes that a text gives, between blanks: a file's text after `:` or its bytes after `%`, a link's text after
+/// `@`, or a directory's entries, of which `-` has none. Bits stand after `!`, where they aren't those of a new node,
+/// and the three times after a `?` after that.
 pub fn listed(alloc: Global, text: &str) -> Result<Vec<NewNode>, AllocError> {
     let mut nodes = Vec::new(alloc);
     for part in text.split_whitespace() {

@@ -59,7 +59,7 @@ fn opened_by(tree: &mut MemTree, it: Handle, what: &str, text: &str) -> Result<H
     opened(tree, it, text)
 }
 
-/// `START NAME OPTIONS; CALL; CALL ..`: what is opened, or a copy of it, is `it` in the calls behind.
+/// `START NAME OPTIONS; CALL; CALL ..`: what is opened, or a copy of it, is `it` in the calls after.
 pub fn with_opened(tree: &mut MemTree, it: Handle, asked: &Asked<'_>) -> Rendered
     requires { contains (live_of tree.old.handles) it ≡ true }
 {
@@ -70,7 +70,7 @@ pub fn with_opened(tree: &mut MemTree, it: Handle, asked: &Asked<'_>) -> Rendere
     }
 }
 
-/// The answers of calls, between which `; ` stands, behind `ok`.
+/// The answers of calls, between which `; ` stands, after `ok`.
 fn along(alloc: Global, tree: &mut MemTree, it: Handle, calls: &str) -> Rendered
     requires { contains (live_of tree.old.handles) it ≡ true }
 {

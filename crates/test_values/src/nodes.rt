@@ -1,4 +1,4 @@
-//! What is said of nodes.
+//! The metadata of nodes.
 use std::alloc::{AllocError, Global};
 use test_support::{number, rendered, time_of, unknown, word};
 use wasi_fs::{Descriptor, DescriptorStat, Dir, File, Flags, FsPerms, MetadataHashValue, OpenMode};

@@ -10,10 +10,10 @@ use crate::stems::Stems;
 use std::alloc::{AllocError, Global};
 use std::marker::Model;
 
-/// From which preopened directory each descriptor number stems, and which nodes were come to through each of them.
+/// From which preopened directory each descriptor number stems, and which nodes were touched through each of them.
 ///
-/// Preopens are counted from 0, and the one at `i` has number `3 + i` at the start, as WASI preview1 numbers them; 0 to 2
-/// are the standard streams, which stem from none. What is opened through a number stems from what that number stems
+/// Preopens are counted from 0, and the one at `i` has number `3 + i` at the start, as WASI preview1 numbers them; 0 to
+/// 2 are the standard streams, which stem from none. What is opened through a number stems from what that number stems
 /// from.
 #[derive(Drop)]
 pub struct Audit {
@@ -36,7 +36,7 @@ impl Model for Audit {
 }
 
 impl Audit {
-    /// The audit at the start of a run with so many preopens, when no node was come to. It is refused where memory is
+    /// The audit at the start of a run with so many preopens, when no node was touched. It is refused where memory is
     /// wanted.
     pub fn new(alloc: Global, preopens: u32) -> Result<Audit, AllocError>
         ensures { IfOk result (λ a. a ≡ started preopens) }
@@ -57,8 +57,8 @@ impl Audit {
     /// from which a named number stems, and then the call's effect on the numbers is applied. Both lists may be in any
     /// order.
     ///
-    /// It is refused where memory is wanted, and then all is as before. A node that is there already costs a binary
-    /// search; a new one moves those behind it.
+    /// It is refused if memory runs out, and then all is as before. A node that is there already costs a binary
+    /// search; a new one moves those after it.
     pub fn note(
         &mut self,
         named: &[u32],
@@ -75,7 +75,7 @@ impl Audit {
         Ok(())
     }
 
-    /// The nodes that were come to through a preopen, each once and rising; `None` exactly where there is no such
+    /// The nodes that were touched through a preopen, each once and rising; `None` exactly where there is no such
     /// preopen.
     pub fn list(&self, preopen: u32) -> Option<&[u64]>
         ensures listed { option_map (λ l. l.now) result ≡ slice_get self.now.lists preopen }

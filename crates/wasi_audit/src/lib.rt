@@ -1,4 +1,4 @@
-//! The audit of a run: through which preopened directory each touched node was come to.
+//! The audit of a run: through which preopened directory each touched node was reached.
 #![tactic(auto)]
 
 mod audit;

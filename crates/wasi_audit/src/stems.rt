@@ -61,7 +61,7 @@ impl Stems {
         Ok(preopens)
     }
 
-    /// Applies an effect; where memory is wanted all stays as it is.
+    /// Applies an effect; if memory runs out all stays as it is.
     pub fn follow(&mut self, effect: AuditEffect) -> Result<(), AllocError>
         ensures ok { OnOk result (self.new ≡ stems_after effect self.old) }
         ensures err { OnErr result (self.new ≡ self.old) }

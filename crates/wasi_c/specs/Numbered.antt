@@ -28,7 +28,7 @@ places_at words place shapes.TwoU32 = record { first = address_at words place; s
 places_at words place shapes.U32AndU16 = record { first = address_at words place; second = address_at words (place + 1) }
 places_at words place shape = record { first = address_at words place; second = 0 }
 
--- a call with so many arguments, and the addresses behind them, where there are as many words as it wants
+-- a call with so many arguments, and the addresses after them, where there are as many words as it wants
 abbrev pub requested_by : List ℕ → ℕ → Call → Option Request
 requested_by words arguments call =
     if nat_le (arguments + result_count (shape_of call)) (length words)

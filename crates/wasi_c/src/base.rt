@@ -5,8 +5,9 @@ ghost use Rattle.wasi_c.specs.Held.{HeldBase, base_coded, lent_by};
 use std::marker::Model;
 use wasi_sandbox::Base;
 
-/// A tree on the heap that sandboxes stand over, and that stays for as long as the program runs (`lent_by`); or nothing, and
-/// then the pointer is null, which C writes as all zeros. It only lends the tree, so it may be copied, and let go.
+/// A tree on the heap that sandboxes stand over, and that stays for as long as the program runs (`lent_by`); or
+/// nothing, and then the pointer is null, which C writes as all zeros. It only lends the tree, so it may be copied, and
+/// dropped.
 #[repr(C)]
 #[derive(Drop)]
 pub struct BaseHandle {
@@ -19,7 +20,7 @@ impl Model for BaseHandle {
 }
 
 impl BaseHandle {
-    /// The handle of a tree that is never let go.
+    /// The handle of a tree that is never released.
     pub(crate) fn of(base: &'static Base) -> BaseHandle
         ensures { result.value ≡ Some base.now }
     {

@@ -81,9 +81,9 @@ fn requested(number: usize, words: &[u64]) -> Option<Request>
     Some(Request { call, to })
 }
 
-/// One call of preview1, by its number and its words: its arguments, and behind them the addresses of its results. Of a word
-/// for 32 bits the low 32 count, and the words behind the last address count nothing. NO_CALL (278) where no call has the
-/// number, or there are fewer words than it wants, and then nothing changes.
+/// One call of preview1, by its number and its words: its arguments, and after them the addresses of its results. Of a
+/// word for 32 bits the low 32 count, and the words after the last address count nothing. NO_CALL (278) where no call
+/// has the number, or there are fewer words than it wants, and then nothing changes.
 #[unsafe(no_mangle)]
 pub extern "C" fn wasi_c_call(
     alloc: Global,

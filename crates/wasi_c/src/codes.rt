@@ -1,5 +1,5 @@
 //! The numbers that C is given: 0 where a call was answered Ok, preview1's error numbers, and from 256 on what no error
-//! number says. `embed/wasi.h` has these names with `WASI_` before them, and of its own 261 and 263, which no function
+//! number says. `embed/zurgwenad/wasi.h` has these names with `WASI_` before them, and of its own 261 and 263, which no function
 //! here answers.
 ghost use Rattle.std.specs.Prelude.{◌≡◌};
 ghost use Rattle.wasi_c.specs.Codes.{code_of, refusal_code, start_code};
@@ -19,7 +19,7 @@ const TRAP_EXIT: u32 = 258;
 /// The guest ended, with the status that it gave `proc_exit`.
 const EXIT: u32 = 259;
 
-/// Memory was wanted.
+/// Memory ran out.
 pub const NO_MEMORY: u32 = 260;
 
 /// The report is longer than the bytes that are lent for it.

@@ -1,4 +1,4 @@
-//! The calls of a sandbox for C, and for each program that calls C's functions. `embed/wasi.h` declares them, and
+//! The calls of a sandbox for C, and for each program that calls C's functions. `embed/zurgwenad/wasi.h` declares them, and
 //! `docs/embedding.md` says what a caller owes.
 //!
 //! Each of these functions takes a `Global`, by which an export of the kit says that C's `malloc` and `free` may be

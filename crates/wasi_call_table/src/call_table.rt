@@ -115,9 +115,9 @@ fn low(word: u64) -> u32
     (word % 4_294_967_296) as u32
 }
 
-/// The call of a number with these words as its arguments, `None` where there is no such call. Of a word for an argument
-/// of 32 bits the low 32 count, and one for an argument with a sign is its two's complement. The words behind the last
-/// argument count nothing.
+/// The call of a number with these words as its arguments, `None` where there is no such call. Of a word for an
+/// argument of 32 bits the low 32 count, and one for an argument with a sign is its two's complement. The words after
+/// the last argument count nothing.
 #[tactic(auto, unfolding(crate::specs::CallTable::call_of_words))]
 pub fn call_of_words(number: usize, words: &[u64; 8]) -> Option<Call>
     ensures { result ≡ table.call_of_words number words.now }

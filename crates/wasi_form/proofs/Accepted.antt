@@ -98,7 +98,7 @@ pub record IsTested {P : Type 0} (kind : Kind P) (bytes : List ℕ) (p : P) : Ty
   pub read : read_as kind.form bytes ≡ Ok p
   pub fit : IsFit (kind.tree p)
 
--- nodes that passed the test stand in the place of those that were read
+-- nodes that passed the test stand in place of those that were read
 pub tested : {P : Type 0} (kind : Kind P) (over : NodeList → P) {bytes : List ℕ} {tree passed : NodeList}
     → ((t : NodeList) → kind.tree (over t) ≡ t) → read_as kind.form bytes ≡ Ok (over tree) → IsTestOf tree (Ok passed)
     → IsTested kind bytes (over passed)

@@ -17,7 +17,7 @@ use Rattle.wasi_form.specs.CallForm.{number_of, first_value, first_number, call_
 
 -- ---- the row of a name is that of its number
 
--- what stands behind a list
+-- what stands after a list
 behind : {A : Type 0} (before : List A) (x : A) (rest : List A) → slice_get (before ++ x ∷ rest) (length before) ≡ Some x
 behind [] x rest = refl
 behind (y ∷ before) x rest = behind before x rest
@@ -239,7 +239,7 @@ pub reads_none : (n : ℕ) (kinds : List Kind) (make : Maker kinds) (words : Lis
     → slice_get kinds n ≡ Some kind → None ≡ first_number kind ds → None ≡ read_then n kinds make 0 words ds
 reads_none n kinds make words ds kind is none = sym (read_none n kinds make 0 words ds kind is none)
 
--- no value is left behind the last kind
+-- no value is left after the last kind
 pub reads_all : (n : ℕ) (kinds : List Kind) (make : Maker kinds) (words : List ℕ) (ds : Items) → n ≡ length kinds
     → None ≡ first_value ds → Some (made_of kinds make 0 words) ≡ read_then n kinds make 0 words ds
 unfolding call_made

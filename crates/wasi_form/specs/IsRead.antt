@@ -3,7 +3,7 @@ use Rattle.std.specs.Prelude.{◌≡◌, Result, Ok, Err, Option, Some, None}
 use Rattle.wasi_form.specs.declared.shapes.Unread.{Unread}
 use Rattle.wasi_form.specs.declared.shapes.Unread.TheVariants.{Shape, Memory}
 
--- another shape is answered exactly where the definition has no value; want of memory is free
+-- another shape is answered exactly where the definition has no value; out of memory is free
 abbrev pub IsUnread : {Y : Type 0} → Unread → Option Y → Type 0
 IsUnread Shape defined = defined ≡ None
 IsUnread Memory defined = Unit {0}

@@ -1,4 +1,4 @@
--- What stands at the front of the tokens of a text, and the tokens behind it.
+-- What stands at the front of the tokens of a text, and the tokens after it.
 use Rattle.std.specs.Prelude.{◌≡◌, ℕ, List, length, Option}
 use Rattle.json.specs.Json as json
 use Rattle.json.specs.Token.{Token}

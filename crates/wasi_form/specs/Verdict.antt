@@ -89,7 +89,7 @@ pub record IsVerdictBy {P : Type 0} (kind : Kind P) (bytes : List ℕ) (verdict 
   pub is_test : IsFitTest kind fit bytes
   pub is : verdict_by kind fit bytes ≡ verdict
 
--- what wasn't read is refused as is said; want of memory is free
+-- what wasn't read is refused as is said; out of memory is free
 abbrev pub Refuses : {P : Type 0} → ScriptError → (Result P Refusal → Type 0) → Type 0
 Refuses (Refused refusal) Is = Is (Err refusal)
 Refuses Memory Is = Unit {0}

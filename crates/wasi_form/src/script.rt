@@ -37,9 +37,9 @@ pub struct Shown {
 }
 
 /// What is run on a tree of files: the directories that the guest is given, the size of its memory in bytes, the pieces
-/// that are written there before the run, the ranges that are shown after it, the calls, how much fuel each of them has,
-/// how many descriptors may be live, streams and preopens among them, which calls of the host fail, how much the guest
-/// may make and grow, and what it is handed in beside the directories.
+/// that are written there before the run, the ranges that are shown after it, the calls, how much fuel each of them
+/// has, how many descriptors may be live, streams and preopens among them, which calls of the host fail, how much the
+/// guest may make and grow, and its environment.
 #[derive(Drop)]
 pub struct Session {
     pub preopens: Vec<ScriptPreopen>,
@@ -69,8 +69,9 @@ pub struct Draft {
     pub session: Session,
 }
 
-/// Several guests that run in turns over one tree of files: its nodes and how large it may grow, what each guest runs, and
-/// of each turn the guest that has it, by its place among them. None of the calls that their host makes is let fail.
+/// Several guests that run in turns over one tree of files: its nodes and how large it may grow, what each guest runs,
+/// and of each turn the guest that has it, by its place among them. None of the calls that their host makes is let
+/// fail.
 #[derive(Drop)]
 pub struct GuestScript {
     pub nodes: WellFormedNodes,

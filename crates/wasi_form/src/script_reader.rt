@@ -38,13 +38,13 @@ pub enum Refusal {
     Shape,
     /// Its nodes are no tree: `MemTree::new` would refuse one of them.
     Tree,
-    /// Its memory, or what is shown of it, has more than 16,777,216 bytes, a piece or a shown range leaves the memory, a
-    /// preopen isn't a directory, or its table is larger than 65,536 or smaller than the three streams and the preopens.
-    /// Several guests have together no more memory than one may have, and no more of it is shown.
+    /// Its memory, or what is shown of it, has more than 16,777,216 bytes, a piece or a shown range leaves the memory,
+    /// a preopen isn't a directory, or its table is larger than 65,536 or smaller than the three streams and the
+    /// preopens. Several guests have together no more memory than one may have, and no more of it is shown.
     Limit,
 }
 
-/// Why no script was read: the bytes aren't one, or memory was wanted.
+/// Why no script was read: the bytes aren't one, or memory ran out.
 #[derive(Debug, Drop, Error)]
 pub enum ScriptError {
     #[error("script refused")]
@@ -63,28 +63,28 @@ impl From<AllocError> for ScriptError {
     }
 }
 
-/// The script that bytes are: the text of a JSON object with the keys `nodes`, `preopens` and `calls`, and with `memory`,
-/// `show`, `limits`, `fuel`, `table`, `faults`, `quota`, `args`, `env`, `stdin`, `wall`, `wall_res`, `mono`, `mono_res` and
-/// `random` where they are wanted. Numbers are whole, of 64 or 32 bits. Of equal keys the last counts.
+/// The script that bytes are: the text of a JSON object with the keys `nodes`, `preopens` and `calls`, and with
+/// `memory`, `show`, `limits`, `fuel`, `table`, `faults`, `quota`, `args`, `env`, `stdin`, `wall`, `wall_res`, `mono`,
+/// `mono_res` and `random` where they are wanted. Numbers are whole, of 64 or 32 bits. Of equal keys the last counts.
 ///
 /// A node is `{"dir": {NAME: NODE ..}}`, `{"file": HEX}` or `{"link": TEXT}`, with `"bits"` beside it, as `"r--"`, and
-/// `"times"`, `[ACCESSED, MODIFIED, CREATED]`, where they aren't those of a new node. A time is `[SECONDS, NANOSECONDS]`
-/// from the epoch on, the seconds with a sign, the nanoseconds below 1,000,000,000. A preopen is
+/// `"times"`, `[ACCESSED, MODIFIED, CREATED]`, where they aren't those of a new node. A time is `[SECONDS,
+/// NANOSECONDS]` from the epoch on, the seconds with a sign, the nanoseconds below 1,000,000,000. A preopen is
 /// `{"node": NODE, "name": NAME, "perms": "ro"}` or `"rw"`, the memory `{"size": BYTES, "pieces": [PIECE ..]}`, a piece
-/// `[OFFSET, "hex", HEX]` or `[OFFSET, "text", TEXT]`, a shown range `[PTR, LEN]`, and a call a list of its name and its
-/// arguments. The limits of the tree are `{"nodes": NODES, "links": LINKS}`, each 1 to 2^32.
+/// `[OFFSET, "hex", HEX]` or `[OFFSET, "text", TEXT]`, a shown range `[PTR, LEN]`, and a call a list of its name and
+/// its arguments. The limits of the tree are `{"nodes": NODES, "links": LINKS}`, each 1 to 2^32.
 ///
 /// The fuel is that of each call, 134,217,728 where it isn't said. The table is how many descriptors may be live, the
-/// three streams and the preopens among them, 1,024 where it isn't said. The arguments are a list of texts, the environment a
-/// list of `[KEY, VALUE]`, two texts, the standard input and the bytes for random each a text in hex. What the wall clock
-/// stands at is `[SECONDS, NANOSECONDS]`, the seconds 0 to 2^63 - 1, the nanoseconds below 1,000,000,000, and so is its
-/// resolution; of the monotonic clock each is a number of nanoseconds. Where they aren't said, the clocks stand at 0, and
-/// their resolutions are a nanosecond; of the rest there is nothing.
+/// three streams and the preopens among them, 1,024 where it isn't said. The arguments are a list of texts, the
+/// environment a list of `[KEY, VALUE]`, two texts, the standard input and the bytes for random each a text in hex.
+/// What the wall clock stands at is `[SECONDS, NANOSECONDS]`, the seconds 0 to 2^63 - 1, the nanoseconds below
+/// 1,000,000,000, and so is its resolution; of the monotonic clock each is a number of nanoseconds. Where they aren't
+/// said, the clocks stand at 0, and their resolutions are a nanosecond; of the rest there is nothing.
 ///
-/// The faults are a list of `[NUMBER, "before"]` or `[NUMBER, "after"]`, of calls of the host that fail, by numbers that rise
-/// from 1 or more on; where they aren't said, none does. The quotas are `{"nodes": BOUND, "bytes": BOUND}`, each 0 to 2^62:
-/// how many makings the guest has, and how many bytes by which it may make files longer; where they aren't said, it has no
-/// bound.
+/// The faults are a list of `[NUMBER, "before"]` or `[NUMBER, "after"]`, of calls of the host that fail, by numbers
+/// that rise from 1 or more on; where they aren't said, none does. The quotas are `{"nodes": BOUND, "bytes": BOUND}`,
+/// each 0 to 2^62: how many makings the guest has, and how many bytes by which it may make files longer; where they
+/// aren't said, it has no bound.
 ///
 /// More than 16,777,216 bytes are `Long`. (No clause says that they aren't looked at, nor that what is kept only while
 /// the text is read is of `room`: the code does so.)
@@ -112,15 +112,16 @@ pub fn read_script<A: Allocator + Copy>(
     Ok(script)
 }
 
-/// The guests that bytes are, which run in turns over one tree: the text of a JSON object with the keys `nodes`, `guests` and
-/// `schedule`, and with `limits` where they are wanted. The nodes and the limits are those of a script, as `read_script` has
-/// them. The guests are a list of objects, each with the keys `preopens` and `calls`, and with any of `memory`, `show`,
-/// `fuel`, `table`, `quota`, `args`, `env`, `stdin`, `wall`, `wall_res`, `mono`, `mono_res` and `random`, which mean of a
-/// guest what they mean in a script. The schedule is a list of the guests' turns: of each its guest, as a number of 32 bits,
-/// from 0 on in the order of the list. A number that names no guest is of another shape.
+/// The guests that bytes are, which run in turns over one tree: the text of a JSON object with the keys `nodes`,
+/// `guests` and `schedule`, and with `limits` where they are wanted. The nodes and the limits are those of a script, as
+/// `read_script` has them. The guests are a list of objects, each with the keys `preopens` and `calls`, and with any of
+/// `memory`, `show`, `fuel`, `table`, `quota`, `args`, `env`, `stdin`, `wall`, `wall_res`, `mono`, `mono_res` and
+/// `random`, which mean of a guest what they mean in a script. The schedule is a list of the guests' turns: of each its
+/// guest, as a number of 32 bits, from 0 on in the order of the list. A number that names no guest is of another shape.
 ///
-/// The bytes are refused as those of a script are. It is `Limit` where one of the guests is past the limits of a script, or
-/// where the memories of all together have more than 16,777,216 bytes, or more than these are shown of all together.
+/// The bytes are refused as those of a script are. It is `Limit` where one of the guests is past the limits of a
+/// script, or where the memories of all together have more than 16,777,216 bytes, or more than these are shown of all
+/// together.
 pub fn read_guest_script<A: Allocator + Copy>(
     alloc: Global,
     room: A,
@@ -166,8 +167,8 @@ fn fit_nodes(
     }
 }
 
-/// The script that bytes are, as `read_script` reads it, but for the tests of its nodes and of the limits: it may be meant
-/// for another tree than that of its nodes. It is refused as `Long`, `Json` or `Shape`, or memory was wanted.
+/// The script that bytes are, as `read_script` reads it, but for the tests of its nodes and of the limits: it may be
+/// meant for another tree than that of its nodes. It is refused as `Long`, `Json` or `Shape`, or memory ran out.
 pub fn read_draft<A: Allocator + Copy>(
     alloc: Global,
     room: A,

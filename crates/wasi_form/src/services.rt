@@ -1,4 +1,4 @@
-//! What a script hands its guest in beside the directories: a key for each part.
+//! A guest's environment in a script: a key for each part.
 ghost use Rattle.std.specs.Prelude.{◌≡◌, option_map, string_bytes};
 ghost use Rattle.json.specs.Json.{parse_map};
 ghost use Rattle.serde_json.specs.Data.{no_members};

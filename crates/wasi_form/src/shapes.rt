@@ -9,7 +9,7 @@ use hex::FromHexError;
 use json::Invalid;
 use std::alloc::{AllocError, AllocFailed, Global};
 
-/// Why a value isn't read: it is of another shape, or memory was wanted.
+/// Why a value isn't read: it is of another shape, or memory ran out.
 #[derive(Clone, Copy, Debug, PartialEq, Eq)]
 pub enum Unread {
     Shape,

@@ -1,4 +1,4 @@
-//! What is said of a descriptor's node.
+//! The metadata of a descriptor's node.
 ghost use Rattle.std.specs.Prelude.{◌≡◌};
 ghost use Rattle.wasi_fs.specs.DescriptorStat.{descriptor_type, datetime, descriptor_stat};
 
@@ -50,7 +50,7 @@ impl From<SystemTime> for Datetime {
     }
 }
 
-/// What is said of a node, by the crate's `DescriptorStat`. A time is `None` where the host doesn't keep it; that of
+/// The metadata of a node, by the crate's `DescriptorStat`. A time is `None` where the host doesn't keep it; that of
 /// metadata is always there.
 #[derive(Clone, Copy, Debug, PartialEq, Eq)]
 pub struct DescriptorStat {

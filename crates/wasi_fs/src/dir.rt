@@ -32,13 +32,14 @@ use wasi_host::{ErrorCode, FileType, Handle, Host, HostError, Metadata};
 /// it answers. A call that isn't permitted asks the host nothing. Memory is taken as the walk takes it; where it is
 /// wanted, the tree is as it was.
 impl Dir {
-    /// Opens a path below this directory: the crate's `open_at`. The new descriptor has this directory's permissions, and
-    /// as its mode the reading and writing that the flags ask for. CREATE makes a missing file, and with EXCLUSIVE refuses
-    /// a name that is there; TRUNCATE cuts a file to no bytes; both open for writing. READ and WRITE open for reading and
-    /// writing, and without WRITE for reading too. EXCLUSIVE alone and MUTATE_DIRECTORY ask for nothing. Refusals, in this
-    /// order: Unsupported of a sync flag; Invalid of DIRECTORY beside another of its flags; NotPermitted of CREATE, WRITE
-    /// and TRUNCATE under read-only permissions, and of TRUNCATE under append-only ones; those of the resolver's `open`;
-    /// NotDirectory where DIRECTORY is asked for and none was opened. Where the look at the new handle fails it is closed.
+    /// Opens a path below this directory: the crate's `open_at`. The new descriptor has this directory's permissions,
+    /// and as its mode the reading and writing that the flags ask for. CREATE makes a missing file, and with EXCLUSIVE
+    /// refuses a name that is there; TRUNCATE cuts a file to no bytes; both open for writing. READ and WRITE open for
+    /// reading and writing, and without WRITE for reading too. EXCLUSIVE alone and MUTATE_DIRECTORY ask for nothing.
+    /// Refusals, in this order: Unsupported of a sync flag; Invalid of DIRECTORY beside another of its flags;
+    /// NotPermitted of CREATE, WRITE and TRUNCATE under read-only permissions, and of TRUNCATE under append-only ones;
+    /// those of the resolver's `open`; NotDirectory where DIRECTORY is asked for and none was opened. Where the look at
+    /// the new handle fails it is closed.
     pub fn open_at<H: Host>(
         &self,
         alloc: Global,
@@ -111,8 +112,8 @@ impl Dir {
         wasi_resolve::remove_dir(alloc, host, self.dir, path)
     }
 
-    /// Drops the name of a file or link: the crate's `unlink_file_at`. Refusals: NotPermitted unless the permissions are
-    /// read-write, then those of the resolver's `remove_file`.
+    /// Drops the name of a file or link: the crate's `unlink_file_at`. Refusals: NotPermitted unless the permissions
+    /// are read-write, then those of the resolver's `remove_file`.
     pub fn unlink_file_at<H: Host>(
         &self,
         alloc: Global,
@@ -158,8 +159,8 @@ impl Dir {
         wasi_resolve::symlink(alloc, host, src_path, self.dir, dest_path)
     }
 
-    /// The text of a link: the crate's `readlink_at`. Refusals: those of the resolver's `read_link`, NotPermitted of a text
-    /// with a root among them.
+    /// The text of a link: the crate's `readlink_at`. Refusals: those of the resolver's `read_link`, NotPermitted of a
+    /// text with a root among them.
     pub fn readlink_at<H: Host>(
         &self,
         alloc: Global,
@@ -180,7 +181,7 @@ impl Dir {
         wasi_resolve::read_link(alloc, host, self.dir, path)
     }
 
-    /// What is said of the node that a path names, where SYMLINK_FOLLOW follows a link under its last name: the crate's
+    /// The metadata of the node that a path names, where SYMLINK_FOLLOW follows a link under its last name: the crate's
     /// `stat_at`. Refusals: those of the resolver's `stat`.
     pub fn stat_at<H: Host>(
         &self,
@@ -203,8 +204,8 @@ impl Dir {
         Ok(DescriptorStat::new(&metadata))
     }
 
-    /// The hash of the node that a path names, found as in `stat_at`: the crate's `metadata_hash_at`. Refusals: those of
-    /// the resolver's `stat`.
+    /// The hash of the node that a path names, found as in `stat_at`: the crate's `metadata_hash_at`. Refusals: those
+    /// of the resolver's `stat`.
     pub fn metadata_hash_at<H: Host>(
         &self,
         alloc: Global,
@@ -247,8 +248,8 @@ impl Dir {
         wasi_resolve::stat(alloc, host, self.dir, path, follow)
     }
 
-    /// Opens a path by an open that is permitted. Where the host fails at the new handle's metadata, or the handle is no
-    /// directory's and should be, it is closed again.
+    /// Opens a path by an open that is permitted. Where the host fails at the new handle's metadata, or the handle is
+    /// no directory's and should be, it is closed again.
     #[tactic(auto, using(wasi_host::proofs::Chain::live_rules))]
     fn open_by<H: Host>(
         &self,

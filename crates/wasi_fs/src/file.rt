@@ -10,7 +10,7 @@ ghost use Rattle.wasi_fs.specs.declared.perms.Act.TheVariants.{Alter};
 use crate::{Act, File};
 use wasi_host::{Advice, Host, HostError};
 
-/// Each call goes through the file's handle, which is to be live, and makes no look-up of a name.
+/// Each call goes through the file's handle, which is to be live, and makes no lookup of a name.
 impl File {
     /// Tells the host how `len` bytes from `offset` on will be used, of which nothing changes: the crate's `advise`. It
     /// takes no memory, and is refused nothing.

@@ -1,4 +1,4 @@
-//! Files and directories of a guest: what they may be used for, how they are opened, and what is said of them.
+//! Files and directories of a guest: what they may be used for, how they are opened, and their metadata.
 #![tactic(auto)]
 
 mod descriptor;

@@ -15,10 +15,10 @@ use crate::{
 use bitflags::Flags;
 use wasi_host::{Host, HostError, Metadata, SyncFlags};
 
-/// Each call looks at what the descriptor's handle stands for, which is to be live, and makes no look-up of a name. It
+/// Each call looks at what the descriptor's handle refers to, which is to be live, and makes no lookup of a name. It
 /// takes no memory.
 impl Descriptor {
-    /// What is said of the node: the crate's `stat`.
+    /// The metadata of the node: the crate's `stat`.
     pub fn stat<H: Host>(&self, host: &mut H) -> Result<DescriptorStat, HostError>
         requires live { contains (H.live host.old) (handle_of self.now) ≡ true }
         ensures cause { HasCause (H.faults host.old) (H.faults host.new) result }
@@ -70,7 +70,7 @@ impl Descriptor {
         Ok(MetadataHashValue::new(&metadata))
     }
 
-    /// Whether two descriptors stand for one node: the crate's `is_same_object`, which compares device and inode.
+    /// Whether two descriptors refer to one node: the crate's `is_same_object`, which compares device and inode.
     pub fn is_same_object<H: Host>(
         &self,
         host: &mut H,

@@ -11,12 +11,12 @@ use crate::Descriptor;
 use std::alloc::Global;
 use wasi_host::{Handle, Host, HostError, read_options};
 
-/// Each call needs the descriptor's handle to be live, and leaves what is live. Of a file it takes no memory and makes no
-/// look-up of a name. A directory is opened anew for reading, as the path `.` below it, so it needs its read bit and its
-/// search bit, whatever its handle was opened for; that takes memory as the resolver's `open` does, and the new handle
-/// is closed again.
+/// Each call needs the descriptor's handle to be live, and leaves what is live. Of a file it takes no memory and makes
+/// no lookup of a name. A directory is opened again for reading, as the path `.` below it, so it needs its read bit and
+/// its search bit, whatever its handle was opened for; that takes memory as the resolver's `open` does, and the new
+/// handle is closed again.
 impl Descriptor {
-    /// Waits until the node is stored, its bytes or names and what is said of it: the crate's `sync`. Refusals: of a file
+    /// Waits until the node is stored, its bytes or names and its metadata: the crate's `sync`. Refusals: of a file
     /// none, of a directory those of the resolver's `open`.
     pub fn sync<H: Host>(&self, alloc: Global, host: &mut H) -> Result<(), HostError>
         requires live { contains (H.live host.old) (handle_of self.now) ≡ true }

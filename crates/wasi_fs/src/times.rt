@@ -14,9 +14,9 @@ use std::alloc::Global;
 use wasi_host::{Host, HostError, SystemTime};
 
 impl Descriptor {
-    /// Sets the given times of the node that the descriptor stands for, that of its last read and that of its last
-    /// change: the crate's `set_times`. One that isn't given stays. Its handle is to be live. It takes no memory. Refusal:
-    /// NotPermitted unless the permissions are read-write, of which the host isn't asked.
+    /// Sets the given times of the node that the descriptor refers to, that of its last read and that of its last
+    /// change: the crate's `set_times`. One that isn't given stays. Its handle is to be live. It takes no memory.
+    /// Refusal: NotPermitted unless the permissions are read-write, of which the host isn't asked.
     pub fn set_times<H: Host>(
         &self,
         host: &mut H,
@@ -52,9 +52,9 @@ impl Descriptor {
 impl Dir {
     /// Sets the given times of the node that a path names below this directory, whose handle is to be live, as
     /// `Descriptor::set_times` does; SYMLINK_FOLLOW follows a link under the last name: the crate's `set_times_at`.
-    /// Without it a link's times are its own, unless a slash stands behind it. Refusals: NotPermitted unless the
-    /// permissions are read-write, of which no host is asked, then those of the resolver's `set_times` or `set_times_nofollow`.
-    /// Memory is taken as by these.
+    /// Without it a link's times are its own, unless a slash stands after it. Refusals: NotPermitted unless the
+    /// permissions are read-write, of which no host is asked, then those of the resolver's `set_times` or
+    /// `set_times_nofollow`. Memory is taken as by these.
     pub fn set_times_at<H: Host>(
         &self,
         alloc: Global,

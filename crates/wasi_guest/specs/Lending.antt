@@ -4,12 +4,12 @@ use Rattle.std.specs.Borrow.{Lends, LendsIf, MutBor, Fml, Array, u8}
 use Rattle.wasi_guest.specs.Range.{lent_at, with_bytes}
 use Rattle.wasi_guest.specs.contracts.memory.GuestMemory.{the_row}
 
--- memory ends as the last bytes behind the slice, which are as many
+-- memory ends as the last bytes after the slice, which are as many
 abbrev pub LendsAll : MutBor (List ℕ) → MutBor (List ℕ) → Fml
 LendsAll memory bytes =
     Lends the_row (Array u8 0) memory bytes (λ others. take (length memory.now) (others ++ drop (length others) memory.now))
 
--- memory ends with the last bytes behind the slice from that address on
+-- memory ends with the last bytes after the slice from that address on
 abbrev pub LendsFrom : MutBor (List ℕ) → ℕ → MutBor (List ℕ) → Fml
 LendsFrom memory at part = Lends the_row (Array u8 0) memory part (with_bytes memory.now at)
 

@@ -22,9 +22,9 @@ pub enum Value {
     Unit,
     Number(u64),
     Pair(u32, u32),
-    /// What is told of a descriptor.
+    /// The type, flags and rights of a descriptor.
     Fdstat(Fdstat),
-    /// What is told of a node.
+    /// The metadata of a node.
     Filestat(Filestat),
 }
 

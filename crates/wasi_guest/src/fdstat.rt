@@ -1,6 +1,6 @@
 //! The record of a descriptor's attributes.
 
-/// What is told of a descriptor: preview1's `fdstat`.
+/// The type, flags and rights of a descriptor: preview1's `fdstat`.
 #[derive(Clone, Copy, Debug, PartialEq, Eq)]
 pub struct Fdstat {
     /// The number of its type, as `Filetype::number` gives it.

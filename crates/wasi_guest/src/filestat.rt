@@ -1,6 +1,6 @@
 //! The record of a node's attributes.
 
-/// What is told of a node or a stream: preview1's `filestat`.
+/// The metadata of a node or a stream: preview1's `filestat`.
 #[derive(Clone, Copy, Debug, PartialEq, Eq)]
 pub struct Filestat {
     /// The number of the device.

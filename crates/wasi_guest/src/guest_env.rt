@@ -1,4 +1,4 @@
-//! What a guest is handed in beside its directories.
+//! The environment of a guest: what it has besides its preopens.
 
 /// A moment of the wall clock: whole seconds since the epoch, and nanoseconds. Of 1,000,000,000 of these and more whole
 /// seconds are carried.
@@ -15,8 +15,8 @@ pub struct EnvPair {
     pub value: String,
 }
 
-/// What a guest is handed in: its arguments and environment, the bytes of its standard input, its two clocks with
-/// their resolutions, and the bytes that it takes for random. Contracts see it as `handed`.
+/// The environment of a guest at its start: its arguments and environment, the bytes of its standard input, its two
+/// clocks with their resolutions, and the bytes that it takes for random. Contracts see it as `handed`.
 #[derive(Debug, Drop)]
 pub struct Services {
     pub args: Vec<String>,

@@ -5,7 +5,7 @@
 pub enum GuestError {
     /// The end of a range is above 2^32 - 1.
     PtrOverflow,
-    /// The end of a range is behind the memory.
+    /// The end of a range is past the memory's end.
     PtrOutOfBounds,
     /// The address of a record isn't a multiple of its alignment.
     PtrNotAligned,

@@ -33,7 +33,7 @@ pub(crate) fn answer_kept(apart: &[Answer], kept: Kept) -> Answer
     }
 }
 
-/// How an answer is kept. One with a record is put behind those that stand apart, where there is room.
+/// How an answer is kept. One with a record is put after those that stand apart, where there is room.
 pub(crate) fn keep(apart: &mut Vec<Answer>, answer: Answer) -> Kept
     requires { vec_len apart.old < vec_capacity apart.old }
     ensures kept { answer_kept apart.new.items result ≡ answer }

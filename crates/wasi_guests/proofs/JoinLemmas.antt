@@ -133,7 +133,7 @@ guest_put {runs} {first} {old} {now} {new} {run} firsts there put = record {
   ];
 }
 
--- ---- the nodes that were made, behind them
+-- ---- the nodes that were made, after them
 
 -- the node at a place of those that were made
 pub made_by_at : (runs : List GuestRun) (made : List Made) (i : ℕ) (d : Made) → All (IsMadeBy runs) (map made_node made)

@@ -32,7 +32,7 @@ numbers_more n (suc count) =
     let same : suc n + count ≡ n + suc count = omega arith in
     ap (λ l. n ∷ l) (numbers_more (suc n) count ∙ ap (λ k. numbers_from (suc n) count ++ k ∷ []) same)
 
--- one number more behind others
+-- one number more after others
 pub noted_joint : (from first node : ℕ) (was : List ℕ) → first ≤ node
     → was ++ numbers_from from (node - first) ++ (from + (node - first)) ∷ [] ≡ was ++ numbers_from from (node + 1 - first)
 noted_joint from first node was low =
@@ -68,7 +68,7 @@ pub turns_push : (guest last : ℕ) (schedule : List ℕ)
     → turns_of guest (schedule ++ last ∷ []) ≡ turns_of guest schedule + cond (last == guest) 1 0
 turns_push guest last schedule = sum_by_push (λ i. cond (i == guest) 1 0) schedule last
 
--- a guest's turns, before a list and in it, are those before its first and in what is behind it
+-- a guest's turns, before a list and in it, are those before its first and in what is after it
 taken_on : (guest first : ℕ) (taken : ℕ → ℕ) (schedule : List ℕ)
     → one_more first taken guest + turns_of guest schedule ≡ taken guest + turns_of guest (first ∷ schedule)
 taken_on guest first taken schedule = elim (cases_eq guest first) [
@@ -83,7 +83,7 @@ taken_on guest first taken schedule = elim (cases_eq guest first) [
       rw here (omega (arith, none))
 ]
 
--- the nodes that one turn more of a guest made stand behind the others
+-- the nodes that one turn more of a guest made stand after the others
 pub made_push : (turns : ℕ → List TraceStep) (guest : ℕ) (taken : ℕ → ℕ) (schedule : List ℕ)
     → made_after turns taken (schedule ++ guest ∷ [])
     ≡ made_after turns taken schedule
@@ -99,7 +99,7 @@ made_push turns guest taken (first ∷ schedule) =
     ∙ sym (append_assoc (map (λ n. (first, n)) (made_in_turn (slice_get (turns first) (taken first))))
     (made_after turns (one_more first taken) schedule) _)
 
--- the turns that were taken made the same, whatever turns there are behind them
+-- the turns that were taken made the same, whatever turns there are after them
 pub made_same : (turns others : ℕ → List TraceStep) (taken : ℕ → ℕ) (schedule : List ℕ)
     → ((i j : ℕ) → j < taken i + turns_of i schedule → slice_get (others i) j ≡ slice_get (turns i) j)
     → made_after others taken schedule ≡ made_after turns taken schedule

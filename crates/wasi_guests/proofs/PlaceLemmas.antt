@@ -25,7 +25,7 @@ set_apart (y ∷ xs) zero (suc k) x other = refl
 set_apart (y ∷ xs) (suc i) zero x other = refl
 set_apart (y ∷ xs) (suc i) (suc k) x other = set_apart xs i k x (λ e. other (ap (λ n. suc n) e))
 
--- the item behind a list is at its end
+-- the item after a list is at its end
 pub got_last : {A : Type 0} (xs : List A) (x : A) → slice_get (xs ++ x ∷ []) (length xs) ≡ Some x
 got_last xs x = get_behind xs (x ∷ []) (length xs) (omega arith)
     ∙ let first : length xs - length xs ≡ 0 = omega arith in ap (slice_get (x ∷ [])) first

@@ -30,7 +30,7 @@ use Rattle.wasi_guests.specs.declared.plan.GuestsError.{GuestsError}
 use Rattle.wasi_guests.specs.declared.plan.GuestsError.TheVariants.{Overlap, Room, Memory}
 use Rattle.wasi_guests.specs.declared.plan.GuestsOutcome.{GuestsOutcome}
 
--- what is made of one item more stands behind what was made of those before
+-- what is made of one item more stands after what was made of those before
 pub push_map : {A B : Type 0} (f : A → B) (done : List B) {more whole : List B} {all rest : List A} {x : A} {y : B}
     → done ++ map f all ≡ whole → all ≡ x ∷ rest → more ≡ done ++ y ∷ [] → y ≡ f x → more ++ map f rest ≡ whole
 push_map f done {rest = rest} was next pushed is = ap (λ l. l ++ map f rest) pushed
@@ -149,7 +149,7 @@ shown_items show = show.items
 count_more : {A : Type 0} (done : List A) (one : A) {more : List A} → more ≡ done ++ one ∷ [] → length more ≡ suc (length done)
 count_more done one pushed = ap length pushed ∙ omega (arith, length-append done (one ∷ []))
 
--- what is told of it stands behind what was told before
+-- what is told of it stands after what was told before
 module _ (done : List GuestOutcome) (one : GuestOutcome) {shows : List (Vec Shown Global)} {more : List GuestOutcome}
     {end : GuestEnd} {all rest : List GuestEnd} (first : ToldFirst shows (length done) end rest) (next : all ≡ end ∷ rest)
     (pushed : more ≡ done ++ one ∷ []) where

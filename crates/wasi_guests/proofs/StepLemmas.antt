@@ -49,7 +49,7 @@ at_as_well {g} {t} {alone} {run} joint was = record {
   ];
 }
 
--- ---- one guest in the place of another
+-- ---- one guest in place of another
 
 module _ {t : Tree} {guests : List Starting} {schedule : List ℕ} {runs : List GuestRun} {made now : List MadeNode}
     (are : AreAt t guests schedule runs made) (i : ℕ) {old new : GuestRun} (there : slice_get runs i ≡ Some old)

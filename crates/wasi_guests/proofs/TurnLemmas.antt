@@ -39,7 +39,7 @@ take_one [] i x at = absurd (cc)
 take_one (y ∷ xs) zero x at = let same : y ≡ x = (cc) in ap (λ z. z ∷ []) same
 take_one (y ∷ xs) (suc i) x at = ap (λ l. y ∷ l) (take_one xs i x at)
 
--- it stands between the items before it and those behind it
+-- it stands between the items before it and those after it
 take_on : {A : Type 0} (xs : List A) (i u : ℕ) (x : A) → slice_get xs i ≡ Some x → suc i ≤ u
     → (rest : List A) × (take u xs ≡ take i xs ++ x ∷ rest)
 take_on [] i u x at more = absurd (cc)
@@ -113,7 +113,7 @@ module _ {g : Starting} {t : ℕ} {alone : AloneRun} {old new : GuestRun} (was :
   calls_same : map (with_fuel new.fuel) new.calls.items ≡ g.calls
   calls_same = rw (made.fuel, made.calls) was.calls
 
-  -- it goes on from the run so far by this turn, whatever comes behind it
+  -- it goes on from the run so far by this turn, whatever comes after it
   on : (more : List FueledCall) (rest : List TraceStep) (last : State) → ends made.answer ≡ false → Trace 0 there more rest last
       → Trace 0 alone.last (call ∷ more) (one ∷ rest) last
   on more rest last goes run = (0, was.state, refl, inl (played, refl), rw goes run)

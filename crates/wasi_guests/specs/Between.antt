@@ -173,7 +173,7 @@ pub record IsPut (run : GuestRun) (old new : List NodeData) : Type 0 where
   pub others : (n : ℕ) → contains (tree_of run).worked n ≡ false → slice_get new n ≡ slice_get old n
   pub touched : WorksOnTouched run.context.host.inner
 
--- The nodes of the start with those that guests worked on, and behind them those that they made. Of a node that several
+-- The nodes of the start with those that guests worked on, and after them those that they made. Of a node that several
 -- worked on nothing is said
 pub record AreJoined (runs : List GuestRun) (made : List MadeNode) (old new : List NodeData) : Type 0 where
   pub kept : (i n : ℕ) (run : GuestRun) → slice_get runs i ≡ Some run → n < length old

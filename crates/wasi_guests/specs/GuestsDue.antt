@@ -84,7 +84,7 @@ status_of (the_outcome plan) = statuses.Done
 abbrev pub OfDue : GuestStatus → Bool → List ℕ → (Due → Type 0) → Type 0
 OfDue status run left Holds = OfOwed (extent status) (IsOwed run left) Holds
 
--- a program ends so that has read no text to write: with a refusal of the bytes, or with a fault or want of memory, which
+-- a program ends so that has read no text to write: with a refusal of the bytes, or with a fault or out of memory, which
 -- are free
 abbrev pub NoText : GuestStatus → List ℕ → List ℕ → Type 0
 NoText (statuses.Refused refusal) left rest = IsRefused left refusal × (rest ≡ left_unread left)

@@ -88,7 +88,7 @@ impl<'a> GuestRun<'a> {
         Ok(())
     }
 
-    /// The place of the call behind one with this answer; past the last where the answer ends the run.
+    /// The place of the call after one with this answer; past the last where the answer ends the run.
     fn place_after(&self, answer: Answer) -> usize
         requires { self.now.next < length self.now.calls.items }
         ensures { result ≡ (if ends answer then length self.now.calls.items else suc self.now.next) }

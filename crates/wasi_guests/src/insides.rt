@@ -6,10 +6,10 @@ use crate::walk::Walk;
 use std::alloc::{AllocError, Global};
 use wasi_tree::MemTree;
 
-/// The lowest node that lies inside two guests, each given by the numbers of its directories; none where no node does. A node
-/// lies inside a guest where it is reached by names from one of these. Two names of one guest for a node don't count. The
-/// only `Err` is want of memory. (No clause says so, but the code goes over the names of a directory at most twice, however
-/// many guests there are.)
+/// The lowest node that lies inside two guests, each given by the numbers of its directories; none where no node does.
+/// A node lies inside a guest where it is reached by names from one of these. Two names of one guest for a node don't
+/// count. The only `Err` is out of memory. (No clause says so, but the code goes over the names of a directory at most
+/// twice, however many guests there are.)
 pub fn lowest_shared(
     alloc: Global,
     tree: &MemTree,

@@ -10,9 +10,9 @@ use wasi_tree::NewNode;
 /// below it.
 pub type GuestPreopen = ScriptPreopen;
 
-/// A guest before its first turn: the directories that it is given, what it is handed in beside them, its memory, the fuel
-/// of each call, how many descriptors may be live, streams and preopens among them, how much it may make and grow, and its
-/// calls in order.
+/// A guest before its first turn: the directories that it is given, its environment, its memory, the fuel of each call,
+/// how many descriptors may be live, streams and preopens among them, how much it may make and grow, and its calls in
+/// order.
 #[derive(Drop)]
 pub struct GuestPlan {
     pub preopens: Vec<GuestPreopen>,

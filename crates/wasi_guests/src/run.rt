@@ -161,18 +161,18 @@ fn run_apart(
     Ok(GuestsOutcome { guests, nodes })
 }
 
-/// Runs several guests over one tree, in turns: each number of the schedule is one turn, the next call of that guest, or
-/// nothing where its calls are at an end, or it trapped or exited. No node may lie inside two guests, that is be reached by
-/// names from directories of both. Then each guest comes to what it comes to alone, by as many calls as it has turns: its
-/// answers, its memory, which keeps its size, and its outputs are those of its run over the same tree by itself. In the nodes
-/// afterwards, those inside it and those that it made are as that run leaves them. A node that was made has a number for
-/// all, that of the nodes at the start and of those that turns before it made; a guest is told the number that it would see
-/// alone. Every other node is as it was. The guests share the tree and nothing else: each has memory, descriptors, quotas, clocks and
-/// random bytes of its own, and keeps what it changes over the tree apart.
+/// Runs several guests over one tree, in turns: each number of the schedule is one turn, the next call of that guest,
+/// or nothing where its calls are at an end, or it trapped or exited. No node may lie inside two guests, that is be
+/// reached by names from directories of both. Then each guest comes to what it comes to alone, by as many calls as it
+/// has turns: its answers, its memory, which keeps its size, and its outputs are those of its run over the same tree by
+/// itself. In the nodes afterwards, those inside it and those that it made are as that run leaves them. A node that was
+/// made has a number for all, that of the nodes at the start and of those that turns before it made; a guest is told
+/// the number that it would see alone. Every other node is as it was. The guests share the tree and nothing else: each
+/// has memory, descriptors, quotas, clocks and random bytes of its own, and keeps what it changes over the tree apart.
 ///
-/// `Overlap` has the lowest node that lies inside two guests, where there is one. `Room` comes where there is none, and the
-/// nodes of the tree and one for each turn are more than the tree may have. `Memory` where memory was wanted. On a refusal
-/// the tree and the guests are dropped.
+/// `Overlap` has the lowest node that lies inside two guests, where there is one. `Room` comes where there is none, and
+/// the nodes of the tree and one for each turn are more than the tree may have. `Memory` if memory ran out. On a
+/// refusal the tree and the guests are dropped.
 pub fn run_guests(
     alloc: Global,
     tree: MemTree,

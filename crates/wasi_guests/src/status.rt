@@ -18,7 +18,8 @@ pub enum GuestRefusal {
     Shape,
     /// Its nodes are no tree.
     Tree,
-    /// A guest is past the limits of a script, or all guests together have more memory, or show more of it, than one may.
+    /// A guest is past the limits of a script, or all guests together have more memory, or show more of it, than one
+    /// may.
     Limit,
     /// A node lies inside two guests.
     Overlap,
@@ -39,13 +40,13 @@ pub enum GuestStatus {
     ReadFault,
     /// The sink failed, or took nothing of a piece. It took a front of what was to be written.
     WriteFault,
-    /// Memory was wanted, and nothing was written.
+    /// Memory ran out, and nothing was written.
     NoMemory,
 }
 
 impl GuestStatus {
-    /// The exit status of the process: 0 where the guests were run, and a number of its own for each other end. They are
-    /// those of the program that runs one guest; 1 is left to a process that is stopped.
+    /// The exit status of the process: 0 where the guests were run, and a number of its own for each other end. They
+    /// are those of the program that runs one guest; 1 is left to a process that is stopped.
     pub fn exit_code(self) -> u8
         ensures code { result ≡ exit_code self }
     {
@@ -59,8 +60,8 @@ impl GuestStatus {
         }
     }
 
-    /// One line for a person, without its end: what happened, and of a script that can't be run where to read more. `None`
-    /// where the text of the outcome or the usage line was written.
+    /// One line for a person, without its end: what happened, and of a script that can't be run where to read more.
+    /// `None` where the text of the outcome or the usage line was written.
     pub fn message(self) -> Option<&'static str>
         ensures text { option_map (λ text. text.now) result ≡ message_of self }
         ensures silent { IsNone result ↔ ((self ≡ GuestStatus.Done) ⊎ (self ≡ GuestStatus.Usage)) }

@@ -114,7 +114,7 @@ unless_value (Some code) is = absurd (cc)
 pub one : {m n : ℕ} → Contains (m ∷ []) n → m ≡ n
 one {m} {n} has = elim (Contains-push_cases [] m n has) [ inl none ↦ absurd (omega (arith, none.1)) | inr same ↦ same ]
 
--- ---- a node in the place of another
+-- ---- a node in place of another
 
 -- the same one, in both trees
 put_same : {Seen : ℕ → Type 0} {t u : Tree} → AgreeOn Seen t u → (m : ℕ) (x y : Node) (worked worked' : Nodes) → x ≡ y

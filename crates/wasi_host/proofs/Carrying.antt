@@ -139,7 +139,7 @@ pub reached_still : (t u : Tree)
 reached_still t u still n =
     reached_among t u (λ _. Unit {0}) (record { names = λ d k name _ is. (tt, still d k name is) }) n tt
 
--- ---- a directory with other entries, and another node in the place of one
+-- ---- a directory with other entries, and another node in place of one
 
 module _ {t u : Tree} {d n : ℕ} {parent other : Node} (both : HasBoth t u d n parent other) where
   -- what the directory keeps stays everywhere but at the node

@@ -22,7 +22,7 @@ named_in node name = maps.get (names_of node.content) name
 
 -- ---- lists of nodes
 
--- an item behind a list, and one in the place of another
+-- an item after a list, and one in place of another
 push_cases : {X : Type 0} (xs : List X) (n : ℕ) (x d : X)
     → (slice_index_or (xs ++ x ∷ []) n d ≡ slice_index_or xs n d) ⊎ (slice_index_or (xs ++ x ∷ []) n d ≡ x)
 push_cases [] zero x d = inr refl
@@ -108,7 +108,7 @@ node_made_leaves t d name node bare = record {
   grows = omega (arith, made_next t d name node);
 }
 
--- a node in the place of another, which has the names that it had
+-- a node in place of another, which has the names that it had
 put_leaves : (t : Tree) (n : ℕ) (node : Node) (worked : Nodes) → names_of node.content ≡ names_of (node_at t n).content
     → Leaves t (changed t n node worked)
 unfolding node_at

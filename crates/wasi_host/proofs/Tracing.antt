@@ -1,4 +1,4 @@
--- Lemmas for callers of a host, on the look-ups that they add.
+-- Lemmas for callers of a host, on the lookups that they add.
 use Rattle.std.proofs.Common.{◌≡◌, ◌⊎◌, inl, inr, ℕ, List, [], ◌∷◌, ◌++◌, Option, Some, None, Result, Ok, Err, refl, sym, ap, ◌∙◌, append_assoc}
 use Rattle.std.proofs.lemmas.List.{append-nil}
 use Rattle.wasi_host.specs.HostLaws.{Handles, Logged, LoggedErr, MaybeLogged, LoggedGotErr, MaybeLoggedGot, one_looked, both_looked}
@@ -35,7 +35,7 @@ pub in_still : (A : ℕ → Type 0) (piece : List Lookup) (h : ℕ) → A h → 
 in_still A [] h has = has
 in_still A (entry ∷ rest) h has = in_still (OrGot A entry.got) rest h (known_still A entry.got h has)
 
--- ---- a piece behind another
+-- ---- a piece after another
 
 provenance-append : (A : ℕ → Type 0) (xs ys : List Lookup) → LookupsHaveProvenance A xs → LookupsHaveProvenance (OrGotIn A xs) ys
     → LookupsHaveProvenance A (xs ++ ys)
@@ -46,7 +46,7 @@ got_in-append : (A : ℕ → Type 0) (xs ys : List Lookup) (h : ℕ) → OrGotIn
 got_in-append A [] ys h has = has
 got_in-append A (x ∷ xs) ys h has = got_in-append (OrGot A x.got) xs ys h has
 
--- a piece from handles that are kept, behind another
+-- a piece from handles that are kept, after another
 pub traced_then : {Given Given' Kept Mid Kept' : ℕ → Type 0} {a b c : List Lookup} → ((h : ℕ) → Kept h → Given h)
     → ((h : ℕ) → Given' h → Mid h)
     → HasProvenance Given Kept Mid a b → HasProvenance Given' Mid Kept' b c → HasProvenance Given Kept Kept' a c

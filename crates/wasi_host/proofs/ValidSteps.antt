@@ -74,7 +74,7 @@ valid-worked t worked valid =
     valid_still t u (carries 0) valid valid.numbers (λ k h.
     content_still (carries k) (node_at t k).content (valid.nodes k h))
 
--- a node in the place of one that has the same names
+-- a node in place of one that has the same names
 module _ (t : Tree) (n : ℕ) (other : Node) (worked : Nodes)
     (same : HasBytes (node_at t n).content other.content) where
   abbrev written : Tree
@@ -291,7 +291,7 @@ can_add t old new n old_name new_name none found =
       room = free.3;
     }
 
--- of two names, of which one is to come in the place of the other
+-- of two names, of which one is to come in place of the other
 pub record CanRename (t : Tree) (old : ℕ) (old_name : List ℕ) (new : ℕ) (new_name : List ℕ) : Type 0 where
   pub old_directory : is_directory (node_at t old).content ≡ true
   pub looks : CanLook t new new_name

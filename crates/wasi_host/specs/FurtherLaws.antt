@@ -60,7 +60,7 @@ EffectOf (Err code) call w v = Looked w call v
 abbrev pub TakesEffect : HostCall → HostModel → HostModel → Type 0
 TakesEffect call w v = EffectOf (host_answer w.tree call) call w v
 
--- or memory was wanted, and the tree stays
+-- or memory ran out, and the tree stays
 abbrev pub MayTakeEffect : HostCall → HostModel → HostModel → Type 0
 MayTakeEffect call w v = TakesEffect call w v ⊎ AfterErr w call Memory v
 

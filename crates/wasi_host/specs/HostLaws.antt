@@ -57,16 +57,16 @@ abbrev pub LiveGot : Handles → Result ℕ HostError → Handles → Type 0
 LiveGot old (Ok h) new = (contains old h ≡ false) × (new ≡ insert old h)
 LiveGot old (Err e) new = new ≡ old
 
--- the look-up of a call that gets no handle: of this kind, from this handle
+-- the lookup of a call that gets no handle: of this kind, from this handle
 abbrev pub one_looked : LookKind → ℕ → List Lookup
 one_looked kind from = record { kind = kind; from = from; got = None } ∷ []
 
--- the look-ups of a call with two names: from the old side's handle, and then from the new side's
+-- the lookups of a call with two names: from the old side's handle, and then from the new side's
 abbrev pub both_looked : LookKind → ℕ → ℕ → List Lookup
 both_looked kind old new =
     record { kind = kind; from = old; got = None } ∷ record { kind = kind; from = new; got = None } ∷ []
 
--- after `Io` or want of memory: none of these look-ups, or all
+-- after `Io` or out of memory: none of these lookups, or all
 abbrev pub MaybeLogged : List Lookup → List Lookup → List Lookup → Type 0
 MaybeLogged old piece new = (new ≡ old) ⊎ (new ≡ old ++ piece)
 
@@ -75,7 +75,7 @@ LoggedErr old piece Memory new = MaybeLogged old piece new
 LoggedErr old piece (Code Io) new = MaybeLogged old piece new
 LoggedErr old piece (Code code) new = new ≡ old ++ piece
 
--- the look-ups of a call that gets no handle
+-- the lookups of a call that gets no handle
 abbrev pub Logged : {A : Type 0} → List Lookup → List Lookup → Result A HostError → List Lookup → Type 0
 Logged old piece (Ok a) new = new ≡ old ++ piece
 Logged old piece (Err e) new = LoggedErr old piece e new
@@ -85,13 +85,13 @@ abbrev pub IsNew : Handles → Option ℕ → Type 0
 IsNew live None = Unit {0}
 IsNew live (Some h) = contains live h ≡ false
 
--- one look-up more, which got nothing or a handle that wasn't live before the call
+-- one lookup more, which got nothing or a handle that wasn't live before the call
 pub record LoggedNew (live : Handles) (old : List Lookup) (kind : LookKind) (from : ℕ) (new : List Lookup) : Type 0 where
   pub got : Option ℕ
   pub is_new : IsNew live got
   pub adds : new ≡ old ++ record { kind = kind; from = from; got = got } ∷ []
 
--- after `Io` or want of memory: no look-up, or such a one
+-- after `Io` or out of memory: no lookup, or such a one
 abbrev pub MaybeLoggedGot : Handles → List Lookup → LookKind → ℕ → List Lookup → Type 0
 MaybeLoggedGot live old kind from new = (new ≡ old) ⊎ LoggedNew live old kind from new
 
@@ -100,12 +100,12 @@ LoggedGotErr live old kind from Memory new = MaybeLoggedGot live old kind from n
 LoggedGotErr live old kind from (Code Io) new = MaybeLoggedGot live old kind from new
 LoggedGotErr live old kind from (Code code) new = new ≡ old ++ one_looked kind from
 
--- the look-up of a call that answers a new handle, which is what it got
+-- the lookup of a call that answers a new handle, which is what it got
 abbrev pub LoggedGot : Handles → List Lookup → LookKind → ℕ → Result ℕ HostError → List Lookup → Type 0
 LoggedGot live old kind from (Ok h) new = new ≡ old ++ record { kind = kind; from = from; got = Some h } ∷ []
 LoggedGot live old kind from (Err e) new = LoggedGotErr live old kind from e new
 
--- a refusal is the one that is meant; `Io` and want of memory say nothing of what is meant
+-- a refusal is the one that is meant; `Io` and out of memory say nothing of what is meant
 abbrev pub MeansErr : {B : Type 0} → Result B ErrorCode → HostError → Type 0
 MeansErr meant Memory = Unit {0}
 MeansErr meant (Code Io) = Unit {0}

@@ -26,7 +26,7 @@ use wasi_paths::Name;
 /// Each method has laws that hold for every host (`cause`, `live`, `logged` and what is said of the answer alone) and,
 /// where the host is modelled, the law `modelled`: every code but `Io` comes exactly by the first rule of the host's
 /// table that holds, Ok has exactly the rule's answer and makes the rule's one step, a refused call leaves the tree,
-/// and the call touches the nodes that it comes to and no others. `Io` comes only where the count of faults rose, and
+/// and the call touches the nodes that it accesses and no others. `Io` comes only where the count of faults rose, and
 /// may hide a step.
 ///
 /// The condition of every method is that its handles are live.
@@ -43,15 +43,15 @@ pub trait Host {
     /// The live handles.
     ghost live: { Self → FinSet nat_cmp };
 
-    /// The look-ups so far. The methods that take a name add to them, one for each name, and `list` and `dup` one each;
-    /// no others do. A call that answers `Io` or want of memory adds as many or none, and of one that would have got a
-    /// handle the look-up may have that handle, which wasn't live before.
+    /// The lookups so far. The methods that take a name add to them, one for each name, and `list` and `dup` one each;
+    /// no others do. A call that answers `Io` or out of memory adds as many or none, and of one that would have got a
+    /// handle the lookup may have that handle, which wasn't live before.
     ghost lookups: { Self → List Lookup };
 
     /// Whether the host is modelled: contracts know its tree.
     ghost modelled: { Bool };
 
-    /// The tree, what each live handle stands for, and the touched nodes. It says nothing where the host isn't
+    /// The tree, what each live handle refers to, and the touched nodes. It says nothing where the host isn't
     /// modelled.
     ghost model: { Self → HostModel };
 
@@ -61,7 +61,7 @@ pub trait Host {
     /// What becomes of the calls to come but `dup` and `close`, of the next one at 0. Where it is modelled, a call
     /// answers `Io` exactly where it fails. Where what calls find is modelled too, one that isn't made leaves all as it
     /// was, and of one that is made and its answer lost, that very call is made: it does what its rule says, unless it
-    /// takes memory and memory was wanted.
+    /// takes memory and memory ran out.
     ghost fails: { Self → Fates };
 
     /// Whether the model says what the host's calls find and leave, be it that others change its tree between them.
@@ -75,7 +75,7 @@ pub trait Host {
     /// before it.
     ghost found: { Self → Tree };
 
-    /// The tree as the last call left it, what each live handle stands for, and the touched nodes. Where it is modelled,
+    /// The tree as the last call left it, what each live handle refers to, and the touched nodes. Where it is modelled,
     /// a call does to `found` and `left` what it does to the model of a modelled host, unless it fails before
     /// it is made; `dup` and `close` find what is left, and leave `found`.
     ghost left: { Self → HostModel };
@@ -219,7 +219,7 @@ pub trait Host {
     /// followed. What the new name held loses it: a file or link has one name fewer, and stays with none too; a
     /// directory is removed. Where both names hold one node, both stay, as with POSIX's `rename`. `requires_dir` asks
     /// for a directory, as a slash at the end of a path does. Refusals: the rules of `rename_at` in the host's table,
-    /// those for its names first, then those for what would come below itself or in the place of a directory above it.
+    /// those for its names first, then those for what would come below itself or in place of a directory above it.
     /// Where both names hold one node there are no others; else those of a move follow.
     fn rename_at(
         &mut self,
@@ -267,7 +267,7 @@ pub trait Host {
         ensures made { IsTrue fails_modelled → IsTrue found_modelled → Leaves (fails self.old 0) (left self.old) (found self.old)
             (left self.new) (MayTakeEffect (UnlinkAt ((left self.old).held start).node (name_bytes name.entry))) };
 
-    /// Drops the name of an empty directory, which is removed from then on: a handle may still stand for it, but it
+    /// Drops the name of an empty directory, which is removed from then on: a handle may still refer to it, but it
     /// takes no name. Refusals: the rules for a name; Invalid of `.`; NoEntry where the name is missing; Access where
     /// the directory that has the name may not be written; NotDirectory where it holds no directory; NotEmpty where
     /// that has names.
@@ -364,7 +364,7 @@ pub trait Host {
         ensures made { IsTrue fails_modelled → IsTrue found_modelled → Leaves (fails self.old 0) (left self.old) (found self.old)
             (left self.new) (TakesEffect (Access ((left self.old).held directory).node)) };
 
-    /// The metadata of what a handle stands for. It takes no memory.
+    /// The metadata of what a handle refers to. It takes no memory.
     fn stat(&mut self, handle: Handle) -> Result<Metadata, ErrorCode>
         requires { contains (live self.old) handle ≡ true }
         ensures cause { HasCause (faults self.old) (faults self.new) (hosted result) }
@@ -382,7 +382,7 @@ pub trait Host {
         ensures made { IsTrue fails_modelled → IsTrue found_modelled → Leaves (fails self.old 0) (left self.old) (found self.old)
             (left self.new) (TakesEffect (Stat ((left self.old).held handle).node)) };
 
-    /// Sets the given times of what a handle stands for, as `times_at` does. It takes no memory, and no rule refuses
+    /// Sets the given times of what a handle refers to, as `times_at` does. It takes no memory, and no rule refuses
     /// it.
     fn set_times(
         &mut self,
@@ -405,8 +405,8 @@ pub trait Host {
         ensures made { IsTrue fails_modelled → IsTrue found_modelled → Leaves (fails self.old 0) (left self.old) (found self.old)
             (left self.new) (TakesEffect (SetTimes ((left self.old).held handle).node atime mtime)) };
 
-    /// Reads a file's bytes from an offset on into the front of `buf`, and answers how many: where the host is
-    /// modelled as many as there are and `buf` takes, 0 at or past the end. The rest of `buf` stays. It takes no memory.
+    /// Reads a file's bytes from an offset on into the front of `buf`, and answers how many: where the host is modelled
+    /// as many as there are and `buf` takes, 0 at or past the end. The rest of `buf` stays. It takes no memory.
     /// Refusals: BadDescriptor without read access or where it is no file; Invalid for an offset of 2^63 or more.
     fn pread(&mut self, file: Handle, buf: &mut [u8], offset: u64) -> Result<usize, ErrorCode>
         requires { contains (live self.old) file ≡ true }
@@ -451,7 +451,7 @@ pub trait Host {
         ensures made { IsTrue fails_modelled → IsTrue found_modelled → Leaves (fails self.old 0) (left self.old) (found self.old)
             (left self.new) (MayTakeEffect (Pwrite ((left self.old).held file) offset piece.now)) };
 
-    /// Puts a piece of bytes behind a file's last one, and answers how many it took, which is all where the host is
+    /// Puts a piece of bytes after a file's last one, and answers how many it took, which is all where the host is
     /// modelled. No bytes change nothing. A call that takes nothing of a piece that isn't empty has failed, and the
     /// count of faults rose. Refusals: BadDescriptor without write access; FileTooLarge where the file would have more
     /// than 2^30 bytes.
@@ -473,7 +473,7 @@ pub trait Host {
         ensures made { IsTrue fails_modelled → IsTrue found_modelled → Leaves (fails self.old 0) (left self.old) (found self.old)
             (left self.new) (MayTakeEffect (Append ((left self.old).held file) piece.now)) };
 
-    /// Cuts a file to so many bytes, or fills it up to them with zeros, as POSIX's `ftruncate` does. Refusals: Invalid
+    /// Cuts a file to a size, or fills it up with zeros, as POSIX's `ftruncate` does. Refusals: Invalid
     /// without write access, and for a size of 2^63 or more; FileTooLarge for more than 2^30 bytes.
     fn set_size(&mut self, file: Handle, size: u64) -> Result<(), HostError>
         requires { contains (live self.old) file ≡ true }
@@ -491,7 +491,7 @@ pub trait Host {
         ensures made { IsTrue fails_modelled → IsTrue found_modelled → Leaves (fails self.old 0) (left self.old) (found self.old)
             (left self.new) (MayTakeEffect (SetSize ((left self.old).held file) size)) };
 
-    /// Waits until what a handle stands for is stored, as POSIX's `fsync` does. It takes no memory, and no rule refuses
+    /// Waits until what a handle refers to is stored, as POSIX's `fsync` does. It takes no memory, and no rule refuses
     /// it.
     fn sync(&mut self, handle: Handle) -> Result<(), ErrorCode>
         requires { contains (live self.old) handle ≡ true }
@@ -566,10 +566,10 @@ pub trait Host {
             Close (λ unit. unit) answered };
 
     /// What holds of every host at any time, modelled or not: its count of faults is a number of 64 bits, and where it
-    /// is modelled, each live handle's node is a node of the tree, and a file where the handle was opened for
-    /// writing, nobody else changes the tree, and the next call finds that model, as the last one left it. Where
-    /// what its calls find is modelled, the next one finds what was left with what others do before it. It does nothing: its
-    /// clauses are laws, for a caller that needs one of them.
+    /// is modelled, each live handle's node is a node of the tree, and a file where the handle was opened for writing,
+    /// nobody else changes the tree, and the next call finds that model, as the last one left it. Where what its calls
+    /// find is modelled, the next one finds what was left with what others do before it. It does nothing: its clauses
+    /// are laws, for a caller that needs one of them.
     fn laws(&self)
         ensures faults { (faults self.now).count ≤ 2 ^ 64 - 1 }
         ensures most { (faults self.now).count ≤ (faults self.now).most }

@@ -1,12 +1,12 @@
-//! What becomes of a call.
+//! Failures of a host that a test asks for.
 
-/// What becomes of a host's call.
+/// Whether a call of a host fails, and when.
 #[derive(Clone, Copy, Debug, PartialEq, Eq)]
 pub enum InjectedFault {
-    /// It doesn't fail by itself.
+    /// No failure is injected: the host answers as it would.
     Passes,
-    /// It isn't made.
+    /// The call fails, and nothing happened.
     FailsBefore,
-    /// It is made, and its answer is lost.
+    /// The call fails, but what it does has happened: its answer is lost.
     FailsAfter,
 }

@@ -1,4 +1,4 @@
-//! What a live handle stands for.
+//! What a live handle refers to.
 ghost use Rattle.std.specs.Prelude.{◌≡◌};
 ghost use Rattle.wasi_host.specs.Refusal.{can_read, can_write};
 
@@ -34,7 +34,7 @@ impl AccessMode {
     }
 }
 
-/// What a live handle stands for: a node, by its number, and what it was opened for.
+/// What a live handle refers to: a node, by its number, and what it was opened for.
 #[derive(Clone, Copy, Debug, PartialEq, Eq)]
 pub struct OpenHandle {
     pub node: u64,

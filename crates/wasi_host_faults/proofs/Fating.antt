@@ -173,7 +173,7 @@ finds_lost r (inr failed) = inr (refl, failed.1)
 
 -- ---- what a call leaves that fails
 
--- a call that didn't fail did what its rule says, or memory was wanted
+-- a call that didn't fail did what its rule says, or memory ran out
 effect_told : {A : Type 0} {old new : Handles} {w v : HostModel} {call : HostCall} {shown : A → HostAnswer call}
     (r : Result A HostError) → has_failed r ≡ false → RefinesCall old new w v call shown r → MayTakeEffect call w v
 effect_told {w = w} {v = v} {call = call} (Ok a) is modelled =

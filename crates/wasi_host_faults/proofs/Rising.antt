@@ -1,4 +1,4 @@
--- Faults whose numbers rise: the next one stands behind those that were met.
+-- Faults whose numbers rise: the next one stands after those that were met.
 use mir.Val.{bool_byte}
 use Rattle.std.proofs.Common.{◌≡◌, ◌≢◌, ◌⊎◌, inl, inr, refl, ap, sym, ◌∙◌, ℕ, zero, suc, ◌+◌, ◌-◌, ◌^◌, ◌<◌, ◌≤◌, Bool, true, false, cond, nat_eq, nat_le, nat_lt, count_by, List, [], ◌∷◌, length, Option, Some, None, slice_get, arith, min}
 use Rattle.std.specs.Prelude.{is_some}
@@ -42,7 +42,7 @@ module _ (n : ℕ) where
       ap (λ b. cond b (Some fault) (fault_numbered faults n)) other
       ∙ none_listed fault.number faults rest (grind (arith, nat_tests))
 
--- behind those that were passed stands the next one, if it is listed, and then one more is passed
+-- after those that were passed stands the next one, if it is listed, and then one more is passed
 pub record NextStands (faults : List Fault) (n : ℕ) : Type 0 where
   pub stands : fault_numbered faults (n + 1) ≡ of_number (n + 1) (slice_get faults (passed faults n))
   pub more : passed faults (n + 1) ≡ passed faults n + bool_byte (is_some (fault_numbered faults (n + 1)))
@@ -116,7 +116,7 @@ pub met_first : (faults : List Fault) → rise_from 0 faults ≡ true → met (r
 unfolding met passed
 met_first faults rise = none_passed 0 0 faults rise (omega arith)
 
--- the next call's fault stands behind those that were met
+-- the next call's fault stands after those that were met
 pub next_is : (s : Calls) (place : ℕ) → rise_from 0 s.faults ≡ true → place ≡ met s
     → standing_at s.faults place s.calls ≡ next_fault s
 unfolding met next_fault passed

@@ -1,8 +1,8 @@
-//! Laws of faults.
+//! A theorem about the faults that `FailAt` injects.
 ghost use Rattle.wasi_host_faults.specs.Faults.{FaultsAreFew};
 
-/// A host that fails at listed calls, over one that never fails by itself, as `MemTree` is: its count is no more than as
-/// many as are listed, and nothing before the first call.
+/// Over a host that never fails by itself, as `MemTree`, no more faults are counted than the list has, and none before
+/// the first call.
 pub fn faults_are_few()
     ensures few { FaultsAreFew }
 {}

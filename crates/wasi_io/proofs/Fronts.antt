@@ -29,7 +29,7 @@ too_long left all rest most is over fits =
     let len : length all ≡ most + 1 = omega arith in
     (rw is (omega (arith, length-append all rest)), rw (is, ← len) (sym (drop-append_seam all rest)))
 
--- a front that was read, and what was given behind it
+-- a front that was read, and what was given after it
 pub read_on : {left now rest buf : List ℕ} {n : ℕ} (all : List ℕ) → left ≡ all ++ now → Gave now rest buf n
     → length all + n ≤ most_bytes + 1 → ReadFront left rest
 read_on {left} {now} {rest} {buf} {n} all is gave short = record {

@@ -2,12 +2,12 @@
 use Rattle.std.specs.Prelude.{ℕ, List, ◌+◌, ◌≡◌, ◌++◌, drop, ⊤}
 use Rattle.wasi_io.specs.Ends.{ReadFront, TookFront, most_bytes}
 
--- what reading leaves: nothing, or of bytes that are too many those behind the first one past the limit
+-- what reading leaves: nothing, or of bytes that are too many those after the first one past the limit
 unfoldable pub left_unread : List ℕ → List ℕ
 left_unread left = drop (most_bytes + 1) left
 
 -- How much of what is due was written: all of it; a front of it, where the sink failed; or none of it, where the source
--- failed or memory was wanted
+-- failed or memory ran out
 pub data Extent : Type 0 where
   all_of_it : Extent
   front_of_it : Extent

@@ -25,7 +25,7 @@ pub record ReadFront (left rest : List ℕ) : Type 0 where
   pub short : length front ≤ most_bytes + 1
 
 -- What reading to the end gives of what was left, and what is left then. A text that is too long is read one byte past
--- the limit, and no more than that is read before a fault or want of memory.
+-- the limit, and no more than that is read before a fault or out of memory.
 abbrev pub ReadAll : Result (List ℕ) Unfinished → List ℕ → List ℕ → Type 0
 ReadAll (Ok bytes) left rest = (bytes ≡ left) × (rest ≡ []) × (length bytes ≤ most_bytes)
 ReadAll (Err Long) left rest = (most_bytes < length left) × (rest ≡ drop (most_bytes + 1) left)

@@ -17,7 +17,7 @@ pub enum Unfinished {
     Long,
     /// A read failed.
     Fault,
-    /// Memory was wanted.
+    /// Memory ran out.
     Memory,
 }
 
@@ -35,8 +35,8 @@ pub fn read_all<S: Source>(alloc: Global, source: &mut S) -> Result<Vec<u8>, Unf
     read_by(alloc, source, chunk.as_mut_slice())
 }
 
-// All that is left, read a chunk at a time. Room for all that may come is asked for at once, so that no byte is copied to
-// larger room; what isn't filled of it is never touched.
+// All that is left, read a chunk at a time. Room for all that may come is asked for at once, so that no byte is copied
+// to larger room; what isn't filled of it is never touched.
 fn read_by<S: Source>(
     alloc: Global,
     source: &mut S,

@@ -110,7 +110,7 @@ module _ (old new : ChangedParents) (n : ℕ) (value : Option ℕ) (put : new �
       ]
       ∙ sym (stands_at base old count k d (omega (arith, within, after))))
 
-  -- an entry behind all nodes
+  -- an entry after all nodes
   pub parents_behind : (base : List (Option ℕ)) (count : ℕ) → count ≤ n
       → parents_over base new count ≡ parents_over base old count
   parents_behind base count behind =

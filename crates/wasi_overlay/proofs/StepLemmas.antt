@@ -304,9 +304,9 @@ module _ (below : GrownNodes) (seats : SeatMap) (round : ℕ) (t : OverState) {w
   state_stepped change g does next made =
       state_changed below seats round n now_worked within change g (inserted_here t.worked n) does next made
 
--- ---- other bytes of a file that has some of its own, or want of memory
+-- ---- other bytes of a file that has some of its own, or out of memory
 
--- a file has other bytes, and was worked on; where memory was wanted, all is as it was
+-- a file has other bytes, and was worked on; where memory ran out, all is as it was
 pub record HasBytesPut {A E : Type 0} (r : Result A E) (t u : OverState) (n : ℕ) (change : List ℕ → List ℕ) : Type 0 where
   pub nodes : OnOk r (u.nodes ≡ slice_set t.nodes n (with_content (slice_index_or t.nodes n stray) (other_bytes change)))
   pub worked : OnOk r (u.worked ≡ insert t.worked n)

@@ -16,7 +16,7 @@ grown_code =
     code_by (List Node × ℕ) (coded× (coded_list node_code) coded_ℕ)
     (λ g. (g.nodes, g.room)) (λ p. record { nodes = p.0; room = p.1 }) (λ _. refl)
 
--- the nodes of a tree, and behind them those that the inodes stand for
+-- the nodes of a tree, and after them those that the inodes stand for
 abbrev pub grown : List Node → List Inode → List Node
 grown base made = base ++ map stored_node made
 

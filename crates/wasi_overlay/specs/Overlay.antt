@@ -9,7 +9,7 @@ pub record WorksOnTouched (m : MemState) : Type 0 where
   pub touched : (n : ℕ) → contains m.tree.worked n ≡ true → contains m.touched n ≡ true
 
 -- it has this tree, on which no step has worked, and nobody asked anything of it: there is no live handle, no node is
--- touched, and there is no look-up
+-- touched, and there is no lookup
 pub record IsFreshOn (t : Tree) (m : MemState) : Type 0 where
   pub tree : m.tree ≡ record t { worked = empty }
   pub live : live_of m.handles ≡ empty

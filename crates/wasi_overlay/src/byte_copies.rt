@@ -22,7 +22,7 @@ pub fn copy_with_piece(
     Ok(copy)
 }
 
-/// A copy of the first bytes, so many, with zeros behind them where there are fewer.
+/// A copy of the first bytes, so many, with zeros after them where there are fewer.
 #[tactic(auto, using(crate::proofs::SeatLemmas::with_size_front))]
 pub fn copy_of_size(alloc: Global, bytes: &[u8], size: usize) -> Result<Vec<u8>, AllocError>
     ensures { IfOk result (λ copy. copy.items ≡ with_size size bytes.now) }

@@ -85,7 +85,7 @@ impl<'a> OverStore<'a> {
         Ok(rows)
     }
 
-    /// The names of a node, behind those of the nodes below its number.
+    /// The names of a node, after those of the nodes below its number.
     fn copy_names_of(&self, alloc: Global, rows: &mut NameIndex, n: u64) -> Result<(), AllocError>
         requires { HoldsNames self.now.tree n rows.old.names }
         ensures { OnOk result (HoldsNames self.now.tree (n + 1) rows.new.names) }

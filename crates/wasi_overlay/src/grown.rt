@@ -10,7 +10,7 @@ use std::marker::Model;
 use wasi_host::{Bits, FileType, Metadata};
 use wasi_tree::{Inode, MemStore, NodeStore};
 
-/// The nodes of a tree that stays, and behind them nodes that were made. Contracts see the nodes by number, and how
+/// The nodes of a tree that stays, and after them nodes that were made. Contracts see the nodes by number, and how
 /// many more can be made before memory is taken.
 #[derive(Debug, Drop)]
 pub struct Grown<'a> {

@@ -300,7 +300,7 @@ impl<'a> OverNodes<'a> {
     }
 
     /// Puts a piece of bytes into a file from an offset on, with zeros in a gap before it. What is no file stays. Where
-    /// memory is wanted, nothing has changed.
+    /// memory runs out, nothing has changed.
     pub fn put(&mut self, n: u64, offset: usize, piece: &[u8]) -> Result<(), AllocError>
         requires held { contains self.old.held n ≡ true }
         requires within { n < length self.old.nodes }
@@ -322,7 +322,7 @@ impl<'a> OverNodes<'a> {
         Ok(())
     }
 
-    /// Cuts a file to so many bytes, or fills it up to them with zeros. What is no file stays. Where memory is wanted,
+    /// Cuts a file to a size, or fills it up with zeros. What is no file stays. If memory runs out,
     /// nothing has changed.
     pub fn resize(&mut self, n: u64, size: usize) -> Result<(), AllocError>
         requires held { contains self.old.held n ≡ true }

@@ -11,7 +11,7 @@ use wasi_paged_map::Pages;
 use wasi_tree::{MemStore, NodeStore, ParentLookup, is_below};
 
 /// In which directory each node of an overlay stands. The tree below stays as it is and tells it of its own nodes; what
-/// changed stands apart. Nodes that are made have the numbers behind those of the tree below.
+/// changed stands apart. Nodes that are made have the numbers after those of the tree below.
 #[derive(Debug, Drop)]
 pub struct OverParents<'a> {
     base: &'a MemStore,
@@ -96,7 +96,7 @@ impl<'a> OverParents<'a> {
         self.set(n, Some(directory));
     }
 
-    /// Makes room for one node more. Where no number is left it fails as for want of memory.
+    /// Makes room for one node more. Where no number is left it fails as when memory runs out.
     pub fn reserve(&mut self) -> Result<(), AllocError>
         ensures parents { self.new.parents ≡ self.old.parents }
         ensures room { OnOk result (self.new.has_room ≡ true) }

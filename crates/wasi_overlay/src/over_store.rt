@@ -20,9 +20,9 @@ use wasi_paths::Name;
 use wasi_tree::{Inode, MemStore, NameLookup, NewContent, NewEntry, NewNode, NodeStore};
 use wasi_tree_index::{OverNameIndex, SearchHint};
 
-/// The nodes of a tree that stays, with what changed of them since: the nodes that were come to, those that were made, and
-/// the names that were put or taken. Contracts see the tree that both together are, the touched nodes, and the nodes that
-/// have room.
+/// The nodes of a tree that stays, with what changed of them since: the nodes that were accessed, those that were made,
+/// and the names that were put or taken. Contracts see the tree that both together are, the touched nodes, and the
+/// nodes that have room.
 #[derive(Debug, Drop)]
 pub struct OverStore<'a> {
     pub(crate) nodes: OverNodes<'a>,
@@ -265,7 +265,7 @@ impl<'a> NodeStore for OverStore<'a> {
         self.nodes.list_touched(alloc)
     }
 
-    /// All room is taken first, so that nothing has changed where memory is wanted.
+    /// All room is taken first, so that nothing has changed if memory runs out.
     fn make_node(
         &mut self,
         directory: u64,

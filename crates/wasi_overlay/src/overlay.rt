@@ -20,9 +20,9 @@ use wasi_host::{
 use wasi_paths::Name;
 use wasi_tree::{HandleError, MemTree, NewNode, NodeStore, TreeHost};
 
-/// A tree of files over a tree in memory that stays, as a host. Guests see and change the tree that both together are. The
-/// tree below is never changed, so dropping the overlay drops the changes; `commit` makes a tree of them. It never forgets
-/// what was touched, so what is kept always lies in it. Contracts see what they see of a `MemTree`.
+/// A tree of files over a tree in memory that stays, as a host. Guests see and change the tree that both together are.
+/// The tree below is never changed, so dropping the overlay drops the changes; `commit` makes a tree of them. It never
+/// forgets what was touched, so what is kept always lies in it. Contracts see what they see of a `MemTree`.
 #[derive(Debug, Drop)]
 pub struct Overlay<'a> {
     host: TreeHost<OverStore<'a>>,
@@ -42,8 +42,8 @@ impl<'a> Model for Overlay<'a> {
 }
 
 impl<'a> Overlay<'a> {
-    /// The tree below, of which nothing has changed. There is no live handle, no node is touched, and there is no look-up.
-    /// It takes no memory.
+    /// The tree below, of which nothing has changed. There is no live handle, no node is touched, and there is no
+    /// lookup. It takes no memory.
     pub fn new(alloc: Global, base: &MemTree) -> Overlay<'_>
         ensures { IsFreshOn base.now.tree result }
     {
@@ -52,7 +52,8 @@ impl<'a> Overlay<'a> {
         }
     }
 
-    /// A handle of a directory, for its path alone. `NotDirectory` where the node isn't one; `Memory` where memory was wanted.
+    /// A handle of a directory, for its path alone. `NotDirectory` where the node isn't one; `Memory` if memory ran
+    /// out.
     pub fn handle(&mut self, node: u64) -> Result<Handle, HandleError>
         ensures not_directory { (result ≡ Err HandleError.NotDirectory) ↔ (is_directory (node_at self.old.tree node).content ≡ false) }
         ensures fresh { IfOk result (λ h. contains (live_of self.old.handles) h ≡ false) }
@@ -75,8 +76,8 @@ impl<'a> Overlay<'a> {
         self.host.store().count()
     }
 
-    /// The node of a number, in memory of its own. The entries of a directory stand in byte order. The only `Err` is want of
-    /// memory, as of all that follows here.
+    /// The node of a number, in memory of its own. The entries of a directory stand in byte order. The only `Err` is
+    /// want of memory, as of all that follows here.
     pub fn new_node(&self, alloc: Global, number: u64) -> Result<NewNode, AllocError>
         requires { number < next_of self.now.tree }
         ensures { IfOk result (λ node. node_data node ≡ data_of_node (node_at self.now.tree number)) }
@@ -84,8 +85,8 @@ impl<'a> Overlay<'a> {
         self.host.store().new_node(alloc, number)
     }
 
-    /// The numbers of the nodes that steps have worked on, rising. Something stands apart of a node that was only read, too,
-    /// but that changes nothing of the node.
+    /// The numbers of the nodes that steps have worked on, rising. Something stands apart of a node that was only read,
+    /// too, but that changes nothing of the node.
     pub fn kept(&self, alloc: Global) -> Result<Vec<u64>, AllocError>
         ensures nodes { IfOk result (λ nodes. from_list nodes.items ≡ self.now.tree.worked) }
         ensures touched { IfOk result (λ nodes. All (λ n. contains self.now.touched n ≡ true) nodes.items) }
@@ -94,8 +95,8 @@ impl<'a> Overlay<'a> {
         self.host.store().list_worked(alloc)
     }
 
-    /// The tree as it is, in memory of its own, as a tree in memory on which no step has worked. It has no live handle, no
-    /// node is touched, and there is no look-up. The overlay and the tree below stay.
+    /// The tree as it is, in memory of its own, as a tree in memory on which no step has worked. It has no live handle,
+    /// no node is touched, and there is no lookup. The overlay and the tree below stay.
     pub fn commit(&self, alloc: Global) -> Result<MemTree, AllocError>
         ensures { IfOk result (IsFreshOn self.now.tree) }
     {

@@ -126,7 +126,7 @@ impl Seat {
         }
     }
 
-    /// Puts a piece into a file's own bytes from an offset on, with zeros in a gap before it. Where memory is wanted, the
+    /// Puts a piece into a file's own bytes from an offset on, with zeros in a gap before it. If memory runs out, the
     /// bytes are as they were.
     pub fn put(&mut self, offset: usize, piece: &[u8]) -> Result<(), AllocError>
         requires { offset + length piece.now ≤ largest_file }
@@ -144,7 +144,7 @@ impl Seat {
         Ok(())
     }
 
-    /// Cuts a file's own bytes to so many, or fills them up to them with zeros. Where memory is wanted, the bytes are as
+    /// Cuts a file's own bytes to a size, or fills them up with zeros. If memory runs out, the bytes are as
     /// they were.
     pub fn resize(&mut self, size: usize) -> Result<(), AllocError>
         ensures put { self.new ≡ kept_changed (own_put (own_of self.new.kept)) self.old }

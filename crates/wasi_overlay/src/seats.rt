@@ -74,7 +74,7 @@ impl Seats {
         }
     }
 
-    /// Gives a number a seat that says nothing, unless it has one. Where memory is wanted, all is as it was.
+    /// Gives a number a seat that says nothing, unless it has one. If memory runs out, all is as it was.
     #[inline(always)]
     pub fn hold(&mut self, n: u64) -> Result<(), AllocError>
         ensures held { OnOk result (self.new ≡ seat_added self.old n) }
@@ -87,7 +87,7 @@ impl Seats {
         Ok(())
     }
 
-    /// Begins the seat of a number anew, for a node of this metadata that is made in a round.
+    /// Begins the seat of a number again, for a node of this metadata that is made in a round.
     pub fn begin(&mut self, n: u64, round: u32, made: Metadata, gone: bool)
         ensures { (node : Node) → made ≡ metadata_from n node → gone ≡ is_gone node.content
             → self.new ≡ seat_changed self.old n (λ _. begun round node) }
@@ -190,8 +190,8 @@ impl Seats {
         list_marked(alloc, &self.by_number, mark)
     }
 
-    /// Begins the round after this one, and says which that is. No seat was touched in it yet. It takes a constant time,
-    /// but for once in 2^32 - 1 times, when it goes over all.
+    /// Begins the round after this one, and says which that is. No seat was touched in it yet. It takes a constant
+    /// time, but for once in 2^32 - 1 times, when it goes over all.
     pub fn begin_round(&mut self, round: u32) -> u32
         requires { (n : ℕ) (seat : Seat) → maps.get self.old n ≡ Some seat → seat.round ≤ round }
         ensures begun { 0 < result }

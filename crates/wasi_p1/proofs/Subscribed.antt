@@ -43,7 +43,7 @@ nothing_past memory at past =
     by true false false outside = refl
     by true false true outside = absurd (cc)
 
--- nor do those behind it
+-- nor do those after it
 none_past : (memory : List ℕ) (at n : ℕ) → (0 < n → length memory < at + 48) → waited_for memory at n ≡ []
 unfolding waited_for
 none_past memory at zero past = refl

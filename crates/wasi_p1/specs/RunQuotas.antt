@@ -18,7 +18,7 @@ pub record KeepsToQuotas (old : State) (calls : List FueledCall) (answers : List
   pub counts : All CountsUse turns
   pub opened : WritesAsOpened new.guest
 
--- the same of the first n calls, where memory was wanted then
+-- the same of the first n calls, where memory ran out then
 pub record KeptToQuotas (old : State) (calls : List FueledCall) (n : ℕ) (new : State) : Type 0 where
   pub answers : List Answer
   pub count : length answers ≡ n

@@ -10,7 +10,7 @@ use wasi_p1_state::{CtxRefused, Ended, P1State};
 use wasi_p1_types::P1Preopen;
 use wasi_streams::ResourceTable;
 
-/// The calls of one guest over a host: the crate's `WasiP1Ctx` of `preview1.rs`. Each call is a method with the name, the
+/// The calls of one guest over a host: the crate's `WasiP1Ctx` of `p1.rs`. Each call is a method with the name, the
 /// arguments and the rule of the call in `wasi_snapshot_preview1`. Contracts see the host, the descriptors, the guest's
 /// environment and the fuel that is left.
 #[derive(Drop)]
@@ -69,7 +69,8 @@ impl<H: Host> WasiP1Ctx<H> {
         Ok(WasiP1Ctx { state })
     }
 
-    /// The context of a guest in a state.
+    /// The calls of a guest whose state exists already, as `wasi_setup` makes it for a script. `new` makes a state of
+    /// its own.
     pub fn of(state: P1State<H>) -> WasiP1Ctx<H>
         ensures { result ≡ state }
     {

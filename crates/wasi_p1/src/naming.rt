@@ -12,9 +12,9 @@ use wasi_guest::{Call, GuestMemory, Subscription, SubscriptionKind};
 const SUBSCRIPTION: u32 = Subscription::SIZE as u32;
 
 /// The numbers of the descriptors that a call names, in the order of its arguments. A number may come twice, and no
-/// descriptor need be open under it. For `poll_oneoff` they are those of its subscriptions that wait to read or to write,
-/// in the order of guest memory; a subscription that can't be read there names none. Calls on arguments, clocks, random
-/// bytes and the process name none. AllocError where memory for these numbers is wanted.
+/// descriptor need be open under it. For `poll_oneoff` they are those of its subscriptions that wait to read or to
+/// write, in the order of guest memory; a subscription that can't be read there names none. Calls on arguments, clocks,
+/// random bytes and the process name none. AllocError where memory for these numbers is wanted.
 pub fn named(alloc: Global, call: &Call, memory: &GuestMemory) -> Result<Vec<u32>, AllocError>
     ensures numbers { IfOk result (λ numbers. numbers.items ≡ descriptors_named memory.now call.now) }
 {
@@ -31,7 +31,7 @@ pub fn named(alloc: Global, call: &Call, memory: &GuestMemory) -> Result<Vec<u32
         | Call::FdSeek { fd, .. }
         | Call::FdTell { fd } => one(alloc, fd),
 
-        // on a descriptor and what it stands for,
+        // on a descriptor and what it refers to,
         Call::FdClose { fd }
         | Call::FdFdstatGet { fd }
         | Call::FdFdstatSetFlags { fd, .. }

@@ -26,7 +26,7 @@ use wasi_guest::{Answer, Answers, Call, Value};
 use wasi_host::Host;
 use wasi_p1_types::{P1Error, RunError};
 
-/// The answer of a call; want of memory is none.
+/// The answer of a call; out of memory is none.
 pub fn answer_of(outcome: Result<Value, P1Error>) -> Option<Answer>
     ensures { result ≡ answer_of outcome }
 {
@@ -47,8 +47,8 @@ pub fn ends_run(answer: Answer) -> bool
 }
 
 /// One call of the context, by the method of its name, with its arguments in the order of `wasi_snapshot_preview1`.
-/// Where it is valid, so that its specification answers it, it is answered, unless memory was wanted or the host
-/// failed. No error number is answered that `may_be_answered` doesn't list. A trap, want of memory and every error
+/// Where it is valid, so that its specification answers it, it is answered, unless memory ran out or the host
+/// failed. No error number is answered that `may_be_answered` doesn't list. A trap, out of memory and every error
 /// number but `io` leave all as before: the descriptors, the guest's memory, its outputs, what it has left of its
 /// input, the clocks, the place in the random bytes, and the tree of a host that tells it.
 ///

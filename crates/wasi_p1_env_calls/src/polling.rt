@@ -11,19 +11,15 @@ use wasi_p1_state::P1State;
 use wasi_p1_state::lookups::room_at;
 use wasi_p1_types::{P1Error, charge};
 
-/// Waits until something of so many subscriptions comes, and writes an event of each that has come, in order, from
-/// `events` on; the answer is how many. A subscription has 48 bytes and an event 32. Streams and files are ready at
-/// once. Where there are only clocks, and none is at its end, the monotonic clock moves to the earliest end, and the
-/// wall clock as far: no time passes in truth. The event of a file that is read tells by its flag whether its
-/// position is at the end or past it. All subscriptions are read before an event is written, so both lists may lie
-/// in the same bytes. Refusals, in this order: Inval of no subscription; Nomem where the subscriptions, and then the
-/// events, are more bytes than the fuel that is left; trap Pointer where a list isn't aligned to 8 or leaves the
-/// memory; of each subscription in turn Inval of an unknown type, clock or flag and of a processor's clock, Overflow
-/// of a moment of a wall clock that 64 bits of nanoseconds don't hold, Badf where what is read is neither a file nor
-/// the standard input, or what is written neither a file nor a standard output, Perm where a file is written under
-/// read-only permissions; trap TableFull where no descriptor more may be live for each subscription, and for each
-/// that names a file once more; Overflow where an i64 wouldn't hold the wall clock's seconds; then the host's, of a
-/// look at each file that is read.
+/// Waits for the first of the `count` subscriptions at `subscriptions`, and writes an event for each that has come, in
+/// order, from `events` on. The answer is how many. A subscription has 48 bytes, an event 32. The fields are those of
+/// the preview1 specification.
+///
+/// Streams and files are ready at once. If only clocks are awaited, and no time has come, the monotonic clock moves to
+/// the earliest one, and the wall clock as far: no time passes in truth. The flag of a file's read event says whether
+/// the position is at the end or past it. All subscriptions are read before an event is written, so the two lists may
+/// overlap. The table must have room for the entries that the crate's `p1.rs` makes during a poll. Refusals:
+/// docs/calls.md.
 #[tactic(auto, using(wasi_p1_model::proofs::Taking::refusals), unfolding(wasi_p1_model::specs::Calls::Polling::poll_oneoff))]
 pub fn poll_oneoff<H: Host>(
     context: &mut P1State<H>,

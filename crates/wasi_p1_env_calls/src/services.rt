@@ -8,9 +8,8 @@ use wasi_p1_state::P1State;
 use wasi_p1_state::lookups::live_at;
 use wasi_p1_types::{INVALID, P1Error, bytes_at, exit_with, known_signal};
 
-/// Writes the addresses of the arguments from `argv` on, and the arguments, each with a zero behind it, from
-/// `argv_buf` on. Where there are any: trap Pointer where `argv` is no multiple of 4, or one of the two ranges
-/// leaves the memory.
+/// Writes the arguments from `argv_buf` on, a zero after each, and their addresses, of 4 bytes each, from `argv` on.
+/// Nothing is written if there are none. Refusals: docs/calls.md.
 #[tactic(auto, using(wasi_p1_model::proofs::Taking::refusals, wasi_p1_model::proofs::Taking::answered_at_once), unfolding(wasi_p1_model::specs::Calls::Services::args_get))]
 pub fn args_get<H: Host>(
     context: &mut P1State<H>,
@@ -25,8 +24,7 @@ pub fn args_get<H: Host>(
     Ok(Value::Unit)
 }
 
-/// How many arguments there are, and how many bytes they have with a zero behind each. Overflow where one of the
-/// two numbers is above 2^32 - 1.
+/// Answers how many arguments there are, and how many bytes they have with a zero after each. Refusals: docs/calls.md.
 #[tactic(auto, using(wasi_p1_model::proofs::Taking::refusals, wasi_p1_model::proofs::Taking::answered_at_once), unfolding(wasi_p1_model::specs::Calls::Services::args_sizes_get))]
 pub fn args_sizes_get<H: Host>(
     context: &mut P1State<H>,
@@ -38,7 +36,8 @@ pub fn args_sizes_get<H: Host>(
     Ok(context.holdings.args_sizes()?)
 }
 
-/// As `args_get`, of the variables of the environment, each a text with `=` between its key and its value.
+/// Writes the variables of the environment as `args_get` writes arguments. Each is a text `KEY=VALUE`. Refusals:
+/// docs/calls.md.
 #[tactic(auto, using(wasi_p1_model::proofs::Taking::refusals, wasi_p1_model::proofs::Taking::answered_at_once), unfolding(wasi_p1_model::specs::Calls::Services::environ_get))]
 pub fn environ_get<H: Host>(
     context: &mut P1State<H>,
@@ -54,7 +53,8 @@ pub fn environ_get<H: Host>(
     Ok(Value::Unit)
 }
 
-/// As `args_sizes_get`, of the variables of the environment as `environ_get` has them.
+/// Answers how many variables the environment has, and how many bytes their texts have with a zero after each.
+/// Refusals: docs/calls.md.
 #[tactic(auto, using(wasi_p1_model::proofs::Taking::refusals, wasi_p1_model::proofs::Taking::answered_at_once), unfolding(wasi_p1_model::specs::Calls::Services::environ_sizes_get))]
 pub fn environ_sizes_get<H: Host>(
     context: &mut P1State<H>,
@@ -66,8 +66,8 @@ pub fn environ_sizes_get<H: Host>(
     Ok(context.holdings.environ_sizes()?)
 }
 
-/// How far apart two moments of a clock are, in nanoseconds. Refusals: Inval of an unknown clock; Badf of that of a
-/// processor; Overflow of a number that 64 bits don't hold.
+/// Answers the resolution of a clock, in nanoseconds: 0 is the wall clock, 1 the monotonic clock. Refusals:
+/// docs/calls.md.
 #[tactic(auto, using(wasi_p1_model::proofs::Taking::refusals, wasi_p1_model::proofs::Taking::answered_at_once), unfolding(wasi_p1_model::specs::Calls::Services::clock_res_get))]
 pub fn clock_res_get<H: Host>(
     context: &mut P1State<H>,
@@ -80,7 +80,8 @@ pub fn clock_res_get<H: Host>(
     Ok(Value::Number(context.holdings.clock_res(id)?))
 }
 
-/// What a clock stands at, in nanoseconds, refused as in `clock_res_get`. The precision isn't used.
+/// Answers the time of a clock, in nanoseconds: of the wall clock since the epoch. The precision isn't used. Refusals:
+/// docs/calls.md.
 #[tactic(auto, using(wasi_p1_model::proofs::Taking::refusals, wasi_p1_model::proofs::Taking::answered_at_once), unfolding(wasi_p1_model::specs::Calls::Services::clock_time_get))]
 pub fn clock_time_get<H: Host>(
     context: &mut P1State<H>,
@@ -94,7 +95,8 @@ pub fn clock_time_get<H: Host>(
     Ok(Value::Number(context.holdings.clock_time(id)?))
 }
 
-/// Ends the guest with a status below 126; trap ExitStatus of another.
+/// Ends the guest with a status below 126. As in the crate's `p1.rs`, another status is a trap. Refusals:
+/// docs/calls.md.
 #[tactic(auto, using(wasi_p1_model::proofs::Taking::refusals, wasi_p1_model::proofs::Taking::answered_at_once), unfolding(wasi_p1_model::specs::Calls::Services::proc_exit))]
 pub fn proc_exit<H: Host>(
     context: &mut P1State<H>,
@@ -107,7 +109,7 @@ pub fn proc_exit<H: Host>(
     Err(exit_with(status))
 }
 
-/// Refusals: Inval of an unknown signal; Notsup of every other.
+/// Is always refused, as in the crate's `p1.rs`: no signal is raised. Refusals: docs/calls.md.
 #[tactic(auto, using(wasi_p1_model::proofs::Taking::refusals, wasi_p1_model::proofs::Taking::answered_at_once), unfolding(wasi_p1_model::specs::Calls::Services::proc_raise))]
 pub fn proc_raise<H: Host>(
     context: &mut P1State<H>,
@@ -121,7 +123,7 @@ pub fn proc_raise<H: Host>(
     Err(P1Error::Errno(Errno::Notsup))
 }
 
-/// Puts the next random bytes into a buffer: trap Pointer where it leaves the memory.
+/// Writes the next random bytes into a buffer. Refusals: docs/calls.md.
 #[tactic(auto, using(wasi_p1_model::proofs::Taking::refusals, wasi_p1_model::proofs::Taking::answered_at_once), unfolding(wasi_p1_model::specs::Calls::Services::random_get))]
 pub fn random_get<H: Host>(
     context: &mut P1State<H>,
@@ -137,7 +139,7 @@ pub fn random_get<H: Host>(
     Ok(Value::Unit)
 }
 
-/// Lets others run: nothing is done.
+/// Does nothing, as no other thread runs: POSIX's `sched_yield`.
 #[tactic(auto, using(wasi_p1_model::proofs::Taking::refusals, wasi_p1_model::proofs::Taking::answered_at_once), unfolding(wasi_p1_model::specs::Calls::Services::sched_yield))]
 pub fn sched_yield<H: Host>(context: &mut P1State<H>, memory: &mut [u8]) -> Result<Value, P1Error>
     ensures host_laws { KeepsHostLaws H.Host context.old context.new memory.old SchedYield result }
@@ -146,8 +148,7 @@ pub fn sched_yield<H: Host>(context: &mut P1State<H>, memory: &mut [u8]) -> Resu
     Ok(Value::Unit)
 }
 
-/// Refusals: Inval of an unknown flag of `fdflags`; Badf where the number isn't live; Notsock of every other, since
-/// no number is a socket's.
+/// Is always refused: no descriptor is a socket. Refusals: docs/calls.md.
 #[tactic(auto, using(wasi_p1_model::proofs::Taking::refusals, wasi_p1_model::proofs::Taking::answered_at_once), unfolding(wasi_p1_model::specs::Calls::Services::sock_accept))]
 pub fn sock_accept<H: Host>(
     context: &mut P1State<H>,
@@ -163,7 +164,7 @@ pub fn sock_accept<H: Host>(
     Err(P1Error::Errno(Errno::Notsock))
 }
 
-/// Refused as in `sock_accept`, by the flags of `riflags`. No buffer is looked at.
+/// Is always refused: no descriptor is a socket. No buffer is read or written. Refusals: docs/calls.md.
 #[tactic(auto, using(wasi_p1_model::proofs::Taking::refusals, wasi_p1_model::proofs::Taking::answered_at_once), unfolding(wasi_p1_model::specs::Calls::Services::sock_recv))]
 pub fn sock_recv<H: Host>(
     context: &mut P1State<H>,
@@ -182,7 +183,8 @@ pub fn sock_recv<H: Host>(
     Err(P1Error::Errno(Errno::Notsock))
 }
 
-/// Refused as in `sock_accept`; any number is a set of `siflags`. No buffer is looked at.
+/// Is always refused: no descriptor is a socket. No buffer is read, and any `si_flags` are taken. Refusals:
+/// docs/calls.md.
 #[tactic(auto, using(wasi_p1_model::proofs::Taking::refusals, wasi_p1_model::proofs::Taking::answered_at_once), unfolding(wasi_p1_model::specs::Calls::Services::sock_send))]
 pub fn sock_send<H: Host>(
     context: &mut P1State<H>,
@@ -200,7 +202,7 @@ pub fn sock_send<H: Host>(
     Err(P1Error::Errno(Errno::Notsock))
 }
 
-/// Refused as in `sock_accept`, by the flags of `sdflags`.
+/// Is always refused: no descriptor is a socket. Refusals: docs/calls.md.
 #[tactic(auto, using(wasi_p1_model::proofs::Taking::refusals, wasi_p1_model::proofs::Taking::answered_at_once), unfolding(wasi_p1_model::specs::Calls::Services::sock_shutdown))]
 pub fn sock_shutdown<H: Host>(
     context: &mut P1State<H>,

@@ -183,7 +183,7 @@ pub fn judged_at<H: Host>(
     Ok(judged)
 }
 
-/// Puts one more behind those that are waited for.
+/// Puts one more after those that are waited for.
 fn push_waited(all: &mut Vec<Waited>, userdata: u64, what: Awaited) -> Result<(), AllocError>
     ensures { OnOk result (all.new.items ≡ all.old.items ++ record { userdata = userdata; what = what } ∷ []) }
 {
@@ -242,7 +242,7 @@ fn size_of<H: Host>(host: &mut H, what: Awaited) -> Result<Option<u64>, P1Error>
     }
 }
 
-/// Puts a size behind others, if there is one.
+/// Puts a size after others, if there is one.
 fn push_size(sizes: &mut Vec<u64>, size: Option<u64>) -> Result<(), AllocError>
     ensures { OnOk result (sizes.new.items ≡ sizes.old.items ++ option_to_list size) }
 {
@@ -308,7 +308,7 @@ fn size_at(sizes: &[u64], place: usize) -> u64
     0
 }
 
-/// Writes the event of a subscription that has come by a moment, where there is one, and gives the place behind it.
+/// Writes the event of a subscription that has come by a moment, where there is one, and gives the place after it.
 fn put_event(memory: &mut [u8], at: usize, waited: Waited, size: u64, moment: u64) -> usize
     requires inside { IsInMemory memory.old at 32 }
     ensures next { result ≡ (if nat_le (comes_at waited.what) moment then at + 32 else at) }

@@ -17,8 +17,8 @@ use wasi_p1_types::{
     stream_fdstat, stream_filestat,
 };
 
-/// The number becomes closed, and what it stood for is closed. Refusal: Badf where the number isn't live. It takes
-/// no memory.
+/// Closes a descriptor, and the handle that it refers to, as POSIX's `close`. Its number may be used again. It takes no
+/// memory. Refusals: docs/calls.md.
 #[tactic(auto, using(wasi_p1_model::proofs::Taking::refusals, wasi_p1_model::proofs::CallTracing::traced_free), unfolding(wasi_p1_model::specs::Calls::Descriptors::fd_close))]
 pub fn fd_close<H: Host>(
     context: &mut P1State<H>,
@@ -33,11 +33,10 @@ pub fn fd_close<H: Host>(
     Ok(Value::Unit)
 }
 
-/// Tells of a descriptor: its type, its flags (append and nonblock of a file), and its rights, for it and for what
-/// is opened below it. A standard stream's type is unknown; it can be read, or written. A directory that the guest
-/// was given has rights of its own, and every other directory others. A file has all, but those to read where it
-/// wasn't opened for reading and that to write where not for writing. Refusal: Badf where the number isn't live. No
-/// host refuses it. It takes no memory.
+/// Answers the type, flags and rights of a descriptor, and the rights of what is opened below it. The rights are those
+/// that the crate's `p1.rs` reports: preopens have their own, and every other directory has others. A file has all
+/// rights but those to read or to write that its opening lacks. A standard stream has an unknown type. No host refuses
+/// it. It takes no memory. Refusals: docs/calls.md.
 #[tactic(auto, using(wasi_p1_model::proofs::Taking::refusals, wasi_p1_model::proofs::Taking::answered_at_once), unfolding(wasi_p1_model::specs::Calls::Descriptors::fd_fdstat_get))]
 pub fn fd_fdstat_get<H: Host>(
     context: &mut P1State<H>,
@@ -65,10 +64,8 @@ pub fn fd_fdstat_get<H: Host>(
     }
 }
 
-/// Sets how a file's descriptor is used: whether what it writes goes behind the file's last byte, and nonblock, by
-/// which nothing changes. Refusals, in this order: Inval where a flag is none of preview1's; Badf where the number
-/// isn't a file's; Inval of dsync, rsync and sync; Perm where append is taken from a file under append-only
-/// permissions. It takes no memory.
+/// Sets the flags of an open file: `append`, by which each write goes to the file's end, and `nonblock`, which changes
+/// nothing. It takes no memory. Refusals: docs/calls.md.
 #[tactic(auto, using(wasi_p1_model::proofs::Taking::refusals), unfolding(wasi_p1_model::specs::Calls::Descriptors::fd_fdstat_set_flags))]
 pub fn fd_fdstat_set_flags<H: Host>(
     context: &mut P1State<H>,
@@ -93,8 +90,8 @@ pub fn fd_fdstat_set_flags<H: Host>(
     Ok(Value::Unit)
 }
 
-/// A descriptor's rights can't be set. Refusals, in this order: Inval where a bit is no right of preview1; Badf where
-/// the number is no directory's or file's; Notsup. It takes no memory.
+/// Is always refused, as in the crate's `p1.rs`: a descriptor's rights stay. It takes no memory. Refusals:
+/// docs/calls.md.
 #[tactic(auto, using(wasi_p1_model::proofs::Taking::refusals), unfolding(wasi_p1_model::specs::Calls::Descriptors::fd_fdstat_set_rights))]
 pub fn fd_fdstat_set_rights<H: Host>(
     context: &mut P1State<H>,
@@ -113,9 +110,8 @@ pub fn fd_fdstat_set_rights<H: Host>(
     Err(P1Error::Errno(Errno::Notsup))
 }
 
-/// Tells of what a descriptor stands for; of a standard stream nothing, by zeros. Refusals, in this order: Badf where
-/// the number isn't live; Overflow of a time that 64 bits of nanoseconds don't hold. No host refuses it, where
-/// POSIX's `fstat` may. It takes no memory.
+/// Answers the metadata of the node that a descriptor refers to; zeros for a standard stream. Times are in nanoseconds
+/// since the epoch. No host refuses it, where POSIX's `fstat` may. It takes no memory. Refusals: docs/calls.md.
 #[tactic(auto, using(wasi_p1_model::proofs::Taking::refusals, wasi_p1_model::proofs::Taking::answered_at_once), unfolding(wasi_p1_model::specs::Calls::Descriptors::fd_filestat_get))]
 pub fn fd_filestat_get<H: Host>(
     context: &mut P1State<H>,
@@ -142,8 +138,7 @@ pub fn fd_filestat_get<H: Host>(
     }
 }
 
-/// How many bytes the name of a directory has that the guest was given. Refusal: Badf of every other number. It
-/// takes no memory.
+/// Answers how many bytes the name of a preopen has. It takes no memory. Refusals: docs/calls.md.
 #[tactic(auto, using(wasi_p1_model::proofs::Taking::refusals), unfolding(wasi_p1_model::specs::Calls::Descriptors::fd_prestat_get))]
 pub fn fd_prestat_get<H: Host>(
     context: &mut P1State<H>,
@@ -163,9 +158,8 @@ pub fn fd_prestat_get<H: Host>(
     Ok(Value::Number(name.len() as u64))
 }
 
-/// Puts the name of a directory that the guest was given into a range of memory, which may have more bytes. Refusals,
-/// in this order: Badf where the number isn't live, Notdir where the guest wasn't given it; Nametoolong where the
-/// name has more bytes than the range; trap Pointer where the memory doesn't hold it there.
+/// Writes the name of a preopen, without a final zero, into a range of memory. The range may be longer than the name.
+/// Refusals: docs/calls.md.
 #[tactic(auto, using(wasi_p1_model::proofs::Taking::refusals), unfolding(wasi_p1_model::specs::Calls::Descriptors::fd_prestat_dir_name))]
 pub fn fd_prestat_dir_name<H: Host>(
     context: &mut P1State<H>,
@@ -190,8 +184,9 @@ pub fn fd_prestat_dir_name<H: Host>(
     Ok(Value::Unit)
 }
 
-/// What `to` stood for is closed, what stands under `from` gets its number, and `from` becomes closed; where the two
-/// are one number nothing changes. Refusal: Badf where one of them isn't live. It takes no memory.
+/// Closes what `to` refers to, moves the descriptor `from` to that number, and closes `from`. If both are one number,
+/// nothing changes. The rule is the preview1 specification's; POSIX's `dup2` leaves `from` open. It takes no memory.
+/// Refusals: docs/calls.md.
 #[tactic(auto, using(wasi_p1_model::proofs::Taking::refusals, wasi_p1_model::proofs::CallTracing::traced_free), unfolding(wasi_p1_model::specs::Calls::Descriptors::fd_renumber))]
 pub fn fd_renumber<H: Host>(
     context: &mut P1State<H>,

@@ -27,7 +27,7 @@ pub fn not_synchronized(fdflags: FdFlags) -> Result<(), P1Error>
 }
 
 /// Whether a file of these permissions may be used so: Perm where only additions are permitted, and what is written
-/// wouldn't go behind its last byte.
+/// wouldn't go after its last byte.
 #[tactic(auto, unfolding(wasi_p1_types::specs::Files::keeps_append))]
 pub fn keeps_append(perms: FsPerms, modes: FileModes) -> Result<(), P1Error>
     ensures specified { result ≡ keeps_append perms modes }

@@ -1,4 +1,4 @@
-//! The calls of `wasi_snapshot_preview1` on a descriptor itself, and on the node that it stands for.
+//! The calls of `wasi_snapshot_preview1` on a descriptor itself, and on the node that it refers to.
 #![tactic(auto)]
 
 mod descriptors;

@@ -9,17 +9,17 @@ use wasi_p1_state::P1State;
 use wasi_p1_state::lookups::{directory_at, room_at};
 use wasi_p1_types::P1Error;
 
-/// Lists the directory of a number: writes its records from a cookie on into a buffer, as far as it takes them, and
-/// answers how many bytes it wrote. First stand `.` and `..`, both with the directory's own number, and then its
-/// names in byte order, each with the number and the type of the node that it holds, a link's own. A record is
-/// preview1's `dirent`, and its name behind it; its `d_next` is the cookie from which the next record is written. The
-/// buffer is cut at its length, so that the last record may not be whole; and fewer bytes than it has say that no
-/// more are left. From a cookie past the last record nothing is written. Refusals, in this order: Badf where the
-/// number isn't a directory's; trap TableFull where as many descriptors are live as may be; those of the host's
-/// `open_at` of `.`, as POSIX's `openat`: Acces where the directory may not be searched, or not be read; trap
-/// Pointer where what is to be written leaves the memory. No modelled host refuses the listing behind
-/// the open, or the look at a name of it. What was opened is closed again. Each page costs a listing, a look at
-/// each name included, and memory by its length.
+/// Writes records of a directory's entries into a buffer, from the record `cookie` on, and answers how many bytes it
+/// wrote. First come `.` and `..`, both with the directory's own number. Then come its names in byte order, each with
+/// the number and the type of its node; for a link, its own.
+///
+/// A record is the `dirent` of the preview1 specification, and the name after it. Its `d_next` is the cookie of the
+/// next record. The buffer's length may cut the last record. Fewer bytes than the buffer has mean that no entry is
+/// left.
+///
+/// The directory is opened again, listed and closed for each call. A call costs a stat of each name, and memory by the
+/// listing's length. No modelled host refuses the listing, or the stat of a name, once the directory is open. Refusals:
+/// docs/calls.md.
 #[tactic(auto, using(wasi_p1_model::proofs::Taking::refusals, wasi_p1_model::proofs::CallTracing::traced_below), unfolding(wasi_p1_model::specs::Calls::Listing::fd_readdir))]
 pub fn fd_readdir<H: Host>(
     context: &mut P1State<H>,

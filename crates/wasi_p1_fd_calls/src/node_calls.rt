@@ -1,4 +1,4 @@
-//! The calls of views about what a number stands for.
+//! The calls of views about what a number refers to.
 ghost use Rattle.std.specs.Prelude.{IsTrue, None, IfOk, IfErr};
 ghost use Rattle.wasi_fs.specs.Calls.{handle_of, may_do, meant_as, perms_of, sets, stats, tells_flags, AnswersKnown, IsFlags, IsTyped, NotMemory};
 ghost use Rattle.wasi_fs.specs.DescriptorStat.{descriptor_stat, IsStat};
@@ -44,7 +44,7 @@ impl<H: Host> NodeCall<H> for SetTimesOf {
     }
 }
 
-/// What is said of a node.
+/// The metadata of a node.
 #[derive(Clone, Copy)]
 pub struct StatOf;
 
@@ -115,7 +115,7 @@ impl<H: Host> NodeCall<H> for FlagsOf {
     }
 }
 
-/// What kind of node a descriptor stands for.
+/// What kind of node a descriptor refers to.
 #[derive(Clone, Copy)]
 pub struct TypeOf;
 

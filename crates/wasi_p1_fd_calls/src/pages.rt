@@ -72,8 +72,8 @@ fn numbered<H: Host>(host: &mut H, dir: &Dir, entry: DirEntry) -> Result<Entry, 
     })
 }
 
-/// The names of a directory, which has this number, behind `.` and `..`, each with the number of its node. Refusals: those
-/// of the look at a name, the first that is refused.
+/// The names of a directory, which has this number, after `.` and `..`, each with the number of its node. Refusals:
+/// those of the look at a name, the first that is refused.
 fn all_numbered<H: Host>(
     alloc: Global,
     host: &mut H,
@@ -100,9 +100,10 @@ fn all_numbered<H: Host>(
     Ok(entries)
 }
 
-/// The listing of a directory: `.` and `..`, which both stand for itself, and then its names in byte order. The directory
-/// is opened anew and listed, looked at, and then a look is had at each name. Refusals: those of the resolver's
-/// `read_dir`, and then of its `stat` at a name. Memory is taken by the length of the listing; what was opened is closed.
+/// The listing of a directory: `.` and `..`, which both name the directory itself, and then its names in byte order.
+/// The directory is opened again and listed, looked at, and then a look is had at each name. Refusals: those of the
+/// resolver's `read_dir`, and then of its `stat` at a name. Memory is taken by the length of the listing; what was
+/// opened is closed.
 pub fn listing_of<H: Host>(alloc: Global, host: &mut H, dir: &Dir) -> Result<Vec<Entry>, HostError>
     requires live { contains (H.live host.old) dir.now.dir ≡ true }
     ensures cause { HasCause (H.faults host.old) (H.faults host.new) result }
@@ -143,8 +144,8 @@ fn put_front(memory: &mut [u8], at: usize, room: usize, bytes: &[u8]) -> usize
     n
 }
 
-/// Writes the record of an entry from an address on, with the cookie of the next, as far as there is room, and gives how
-/// many bytes it took.
+/// Writes the record of an entry from an address on, with the cookie of the next, as far as there is room, and gives
+/// how many bytes it took.
 fn put_record(memory: &mut [u8], at: usize, room: usize, next: u64, entry: &Entry) -> usize
     requires short { length (string_bytes entry.now.name) ≤ 255 }
     requires inside { IsInMemory memory.old at room }
@@ -193,9 +194,9 @@ fn put_records(memory: &mut [u8], at: usize, room: usize, entries: &[Entry], fro
     }
 }
 
-/// Puts the records of a listing from a cookie on into a buffer, as far as it takes them, and gives how many bytes stand
-/// there: trap Pointer where the memory doesn't hold so many from there on. The last record may be cut; from the last
-/// one's cookie on there is nothing.
+/// Puts the records of a listing from a cookie on into a buffer, as far as it takes them, and gives how many bytes
+/// stand there: trap Pointer where the memory doesn't hold so many from there on. The last record may be cut; from the
+/// last one's cookie on there is nothing.
 pub fn write_page(
     memory: &mut [u8],
     buf: u32,

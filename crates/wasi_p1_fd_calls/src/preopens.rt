@@ -14,7 +14,7 @@ use wasi_host::Host;
 use wasi_p1_state::descriptors::Descriptors;
 use wasi_p1_types::{GuestEnv, P1Error, Slot, Stream, bytes_at};
 
-/// The name of the directory of a number, if the guest was given it.
+/// The name of the preopen of a number, if it is one.
 fn preopen_name<'h, H: Host>(
     host: &H,
     descriptors: &Descriptors,
@@ -30,7 +30,7 @@ fn preopen_name<'h, H: Host>(
     }
 }
 
-/// The name of the directory of a number that the guest was given; another number is refused.
+/// The name of the preopen of a number; another number is refused.
 pub fn preopen_at<'h, H: Host>(
     host: &H,
     descriptors: &Descriptors,

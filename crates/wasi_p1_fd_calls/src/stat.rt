@@ -25,7 +25,7 @@ use wasi_p1_state::views::about;
 use wasi_p1_types::{FileSlot, P1Error, directory_fdstat, file_fdstat};
 use wasi_p2_calls::{FsResult, WasiFilesystemCtx};
 
-/// What is told of a descriptor's node: its two answers, which make one record.
+/// The metadata of a descriptor's node: its two answers, which make one record.
 fn looked_at<H: Host>(
     fs: &mut WasiFilesystemCtx<H>,
     descriptors: &mut Descriptors,
@@ -72,7 +72,7 @@ pub fn node_filestat<H: Host>(
     Ok(filestat)
 }
 
-/// What is told of a directory's descriptor that isn't one of those that the guest was given. The host's answer tells
+/// The `fdstat` of a directory's descriptor that isn't one of those that the guest was given. The host's answer tells
 /// nothing.
 pub fn dir_fdstat<H: Host>(
     fs: &mut WasiFilesystemCtx<H>,
@@ -96,7 +96,7 @@ pub fn dir_fdstat<H: Host>(
     Ok(directory_fdstat())
 }
 
-/// What is told of a file's descriptor: its type as the host says it, whose answer on its flags tells nothing.
+/// The `fdstat` of a file's descriptor: its type as the host says it, whose answer on its flags tells nothing.
 pub fn open_file_fdstat<H: Host>(
     fs: &mut WasiFilesystemCtx<H>,
     descriptors: &mut Descriptors,

@@ -10,9 +10,8 @@ use wasi_p1_state::lookups::descriptor_at;
 use wasi_p1_state::views::about;
 use wasi_p1_types::{NewTimes, P1Error};
 
-/// Sets the times of the node of a descriptor, as `path_filestat_set_times` does. It takes no memory. Refusals, in
-/// this order: those of its flags and times, as there; Badf where the number isn't a directory's or file's; Perm
-/// unless its permissions are read-write. No host refuses it further, where POSIX's `futimens` may.
+/// Sets the times of the node that a descriptor refers to, as `path_filestat_set_times` does. No host refuses it, where
+/// POSIX's `futimens` may. It takes no memory. Refusals: docs/calls.md.
 #[tactic(auto, using(wasi_p1_model::proofs::Taking::refusals), unfolding(wasi_p1_model::specs::Calls::Times::fd_filestat_set_times))]
 pub fn fd_filestat_set_times<H: Host>(
     context: &mut P1State<H>,

@@ -102,7 +102,7 @@ impl<H: Host> FileCall<H> for SyncDataOf {
     }
 }
 
-/// Waits until a file is stored, with what is said of it.
+/// Waits until a file is stored, with its metadata.
 #[derive(Clone, Copy)]
 pub struct SyncOf;
 

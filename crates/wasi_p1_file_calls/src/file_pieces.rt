@@ -122,7 +122,7 @@ pub fn position_sought<H: Host>(
     position_from(base, offset)
 }
 
-/// Puts a piece behind a file's last byte, and gives how many bytes the file took. A host that takes nothing of a piece
+/// Puts a piece after a file's last byte, and gives how many bytes the file took. A host that takes nothing of a piece
 /// that isn't empty has failed.
 #[tactic(auto, using(wasi_host::proofs::Chain::live_rules))]
 fn append_piece<H: Host>(host: &mut H, file: Handle, piece: &[u8]) -> Result<u64, P1Error>
@@ -143,7 +143,7 @@ fn append_piece<H: Host>(host: &mut H, file: Handle, piece: &[u8]) -> Result<u64
     Ok(count as u64)
 }
 
-/// Puts a piece behind a file's last byte, as `append_piece` does; the position is the file's size after that.
+/// Puts a piece after a file's last byte, as `append_piece` does; the position is the file's size after that.
 fn put_behind<H: Host>(host: &mut H, file: Handle, piece: &[u8]) -> Result<Put, P1Error>
     requires live { contains (H.live host.old) file ≡ true }
     ensures cause { Causes (H.faults host.old) (H.faults host.new) result }
@@ -164,7 +164,7 @@ fn put_behind<H: Host>(host: &mut H, file: Handle, piece: &[u8]) -> Result<Put, 
     })
 }
 
-/// Puts a piece into a file, in append mode behind its last byte and else from an offset on, and gives how many bytes
+/// Puts a piece into a file, in append mode after its last byte and else from an offset on, and gives how many bytes
 /// the file took.
 pub fn put_piece<H: Host>(
     host: &mut H,
@@ -192,8 +192,8 @@ pub fn put_piece<H: Host>(
     write_piece(host, file, offset, piece)
 }
 
-/// Puts a piece into a file, in append mode behind its last byte and else from its position on, and gives where its
-/// position is then: in append mode the file's size, and else behind what the file took.
+/// Puts a piece into a file, in append mode after its last byte and else from its position on, and gives where its
+/// position is then: in append mode the file's size, and else after what the file took.
 pub fn put_next<H: Host>(
     host: &mut H,
     file: Handle,

@@ -11,9 +11,8 @@ use wasi_p1_state::lookups::{file_at, put_back};
 use wasi_p1_state::views::files::about_file;
 use wasi_p1_types::{FileEnd, FileSlot, FileUse, P1Error, advice_of, whence_of};
 
-/// Tells the host how `len` bytes of a file from `offset` on will be used, of which nothing changes. Refusals, in
-/// this order: Inval where the advice is none of preview1's; Badf where the number isn't a file's. No host refuses
-/// it, where POSIX's `posix_fadvise` may. It takes no memory.
+/// Tells the host how `len` bytes of a file from `offset` on will be used. Nothing changes. No host refuses it, where
+/// POSIX's `posix_fadvise` may. It takes no memory. Refusals: docs/calls.md.
 #[tactic(auto, using(wasi_p1_model::proofs::Taking::refusals), unfolding(wasi_p1_model::specs::Calls::PositionsAndSizes::fd_advise))]
 pub fn fd_advise<H: Host>(
     context: &mut P1State<H>,
@@ -42,7 +41,7 @@ pub fn fd_advise<H: Host>(
     Ok(Value::Unit)
 }
 
-/// Is refused, as the crate does: Badf where the number isn't a file's, and Notsup of a file.
+/// Is always refused, as in the crate's `p1.rs`: no space is reserved. Refusals: docs/calls.md.
 #[tactic(auto, using(wasi_p1_model::proofs::Taking::refusals), unfolding(wasi_p1_model::specs::Calls::PositionsAndSizes::fd_allocate))]
 pub fn fd_allocate<H: Host>(
     context: &mut P1State<H>,
@@ -58,8 +57,8 @@ pub fn fd_allocate<H: Host>(
     Err(P1Error::Errno(Errno::Notsup))
 }
 
-/// Waits until a file's bytes are stored. Refusal: Badf where the number isn't a file's. No host refuses it, where
-/// POSIX's `fdatasync` may. It takes no memory.
+/// Waits until the bytes of a file are stored. No host refuses it, where POSIX's `fdatasync` may. It takes no memory.
+/// Refusals: docs/calls.md.
 #[tactic(auto, using(wasi_p1_model::proofs::Taking::refusals), unfolding(wasi_p1_model::specs::Calls::PositionsAndSizes::fd_datasync))]
 pub fn fd_datasync<H: Host>(
     context: &mut P1State<H>,
@@ -80,8 +79,8 @@ pub fn fd_datasync<H: Host>(
     Ok(Value::Unit)
 }
 
-/// Waits until a file's bytes are stored, and what is said of it. Refusal: Badf where the number isn't a file's. No
-/// host refuses it, where POSIX's `fsync` may. It takes no memory.
+/// Waits until the bytes and the metadata of a file are stored. No host refuses it, where POSIX's `fsync` may. It takes
+/// no memory. Refusals: docs/calls.md.
 #[tactic(auto, using(wasi_p1_model::proofs::Taking::refusals), unfolding(wasi_p1_model::specs::Calls::PositionsAndSizes::fd_sync))]
 pub fn fd_sync<H: Host>(
     context: &mut P1State<H>,
@@ -102,12 +101,10 @@ pub fn fd_sync<H: Host>(
     Ok(Value::Unit)
 }
 
-/// Cuts a file to `size` bytes, or fills it up to them with zeros; its position stays. Refusals, in this order: Badf
-/// where the number isn't a file's; Perm unless its permissions are read-write; Dquot where a bound on grown bytes would
-/// be passed, for which the host is asked for the file's size; then the host's, which are those of
-/// POSIX's `ftruncate`: Inval where the file isn't open for writing, and of a size of 2^63 or more, and Fbig of more
-/// than 2^30 bytes. An answer counts the bytes by which the file grew, and so may a failure of the host; a smaller size
-/// gives none back.
+/// Cuts a file to `size` bytes, or adds zeros up to them, as POSIX's `ftruncate`. Its position stays.
+///
+/// With a quota of grown bytes, the host is first asked for the file's size. An answer counts the bytes that the file
+/// grew, and a failure of the host may. A smaller size gives none back. It takes no memory. Refusals: docs/calls.md.
 #[tactic(auto, using(wasi_p1_model::proofs::Taking::refusals), unfolding(wasi_p1_model::specs::Calls::PositionsAndSizes::fd_filestat_set_size))]
 pub fn fd_filestat_set_size<H: Host>(
     context: &mut P1State<H>,
@@ -134,10 +131,8 @@ pub fn fd_filestat_set_size<H: Host>(
     Ok(Value::Unit)
 }
 
-/// Puts a file's position `offset` bytes from its start, from where it is, or from the file's end, as `whence` says,
-/// and answers it. It may be past the end. Refusals, in this order: Inval where `whence` is none of preview1's;
-/// Spipe of a standard stream, and Badf where the number else isn't a file's; Inval where the position would be
-/// below 0, or 64 bits don't hold it, as POSIX's `lseek` refuses them. It takes no memory.
+/// Sets the position of a file to `offset` bytes from its start, its position or its end, as `whence` says, and answers
+/// it, as POSIX's `lseek`. It may be past the end. It takes no memory. Refusals: docs/calls.md.
 #[tactic(auto, using(wasi_p1_model::proofs::Taking::refusals), unfolding(wasi_p1_model::specs::Calls::PositionsAndSizes::fd_seek))]
 pub fn fd_seek<H: Host>(
     context: &mut P1State<H>,
@@ -165,8 +160,7 @@ pub fn fd_seek<H: Host>(
     Ok(Value::Number(position))
 }
 
-/// A file's position. Refusals: Spipe of a standard stream, and Badf where the number else isn't a file's. It takes
-/// no memory.
+/// Answers the position of a file, in bytes from its start. It takes no memory. Refusals: docs/calls.md.
 #[tactic(auto, using(wasi_p1_model::proofs::Taking::refusals), unfolding(wasi_p1_model::specs::Calls::PositionsAndSizes::fd_tell))]
 pub fn fd_tell<H: Host>(
     context: &mut P1State<H>,

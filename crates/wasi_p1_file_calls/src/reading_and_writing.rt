@@ -18,13 +18,10 @@ use wasi_p1_types::{
 /// How many bytes a read at an offset fills at most.
 const MOST_READ: u32 = 65_536;
 
-/// Reads a file's bytes from `offset` on into the first buffer that has any, of so many records at an address, and
-/// answers how many, which are no more than 65,536; the file's position stays. Refusals, in this order: Nomem where
-/// the records, or the buffer, are more than the fuel; trap Pointer where a record up to that one isn't aligned to 4
-/// or leaves the memory; Spipe of the standard input, and Badf where the number else isn't a file's; trap TableFull
-/// where as many descriptors are live as may be; trap Pointer where the buffer leaves the memory; then the host's,
-/// which are those of POSIX's `pread`. At or past the end, and with no bytes to fill, the answer is 0. It takes no
-/// memory.
+/// Reads the bytes of a file from `offset` on into the first of the buffers that isn't empty, and answers how many, as
+/// POSIX's `pread`. At or past the end it is 0. The file's position stays. `iovs` is the address of the list of
+/// buffers, `iovs_len` its length in records of 8 bytes. One call reads at most 65,536 bytes, and needs room in the
+/// table for a stream, as in the crate's `p1.rs`. It takes no memory. Refusals: docs/calls.md.
 #[tactic(auto, using(wasi_p1_model::proofs::Taking::refusals), unfolding(wasi_p1_model::specs::Calls::ReadingAndWriting::fd_pread))]
 pub fn fd_pread<H: Host>(
     context: &mut P1State<H>,
@@ -49,14 +46,11 @@ pub fn fd_pread<H: Host>(
     Ok(Value::Number(count as u64))
 }
 
-/// Writes the first buffer that has bytes, of so many records at an address, into a file from `offset` on, and
-/// answers how many bytes it took; in append mode behind the file's last byte, wherever `offset` is. The file's
-/// position stays. Refusals, in this order: Nomem where the records, or the buffer, are more than the fuel; trap
-/// Pointer where a record up to that one isn't aligned to 4 or leaves the memory; Spipe of an output, and Badf where
-/// the number else isn't a file's; trap Pointer where the buffer leaves the memory; Badf under read-only
-/// permissions; Dquot where a bound on grown bytes would be passed, for which the host is asked for the file's size;
-/// then the host's, which are those of POSIX's `pwrite`. An answer counts the bytes by which the file grew, and so may
-/// a failure of the host.
+/// Writes the first of the buffers that isn't empty into a file from `offset` on, and answers how many bytes it took,
+/// as POSIX's `pwrite`. In append mode the bytes go to the file's end, wherever `offset` is. The file's position stays.
+///
+/// With a quota of grown bytes, the host is first asked for the file's size. An answer counts the bytes that the file
+/// grew, and a failure of the host may. Refusals: docs/calls.md.
 #[tactic(auto, using(wasi_p1_model::proofs::Taking::refusals), unfolding(wasi_p1_model::specs::Calls::ReadingAndWriting::fd_pwrite))]
 pub fn fd_pwrite<H: Host>(
     context: &mut P1State<H>,
@@ -82,13 +76,9 @@ pub fn fd_pwrite<H: Host>(
     Ok(Value::Number(count?))
 }
 
-/// Reads a file's bytes at its position, or the next ones of the standard input, into the first buffer that has
-/// any, of so many records at an address, and answers how many; a file's position is behind them afterwards.
-/// Refusals, in this order: Nomem where the records, or the buffer, are more than the fuel; trap Pointer where a
-/// record up to that one isn't aligned to 4 or leaves the memory; Badf where the number is neither a file's nor the
-/// standard input's; trap Pointer where the buffer leaves the memory; then of a file the host's, which are those of
-/// POSIX's `pread`, and of the standard input Intr of no bytes to fill where some are left. At or past the end, and
-/// with no bytes of a file to fill, the answer is 0.
+/// Reads the bytes of a file at its position, or the next ones of standard input, into the first of the buffers that
+/// isn't empty, and answers how many, as POSIX's `read`. At or past the end it is 0. The position moves past the bytes.
+/// Refusals: docs/calls.md.
 #[tactic(auto, using(wasi_p1_model::proofs::Taking::refusals), unfolding(wasi_p1_model::specs::Calls::ReadingAndWriting::fd_read))]
 pub fn fd_read<H: Host>(
     context: &mut P1State<H>,
@@ -121,15 +111,12 @@ pub fn fd_read<H: Host>(
     Ok(Value::Number(count as u64))
 }
 
-/// Writes the first buffer that has bytes, of so many records at an address, into a file at its position, or behind
-/// what was written to an output, and answers how many bytes it took; a file's position is behind them afterwards.
-/// In append mode they go behind the file's last byte, and its position is its size afterwards.
-/// An output, and a modelled host, takes all of them. Refusals, in this order: Nomem where the records,
-/// or the buffer, are more than the fuel; trap Pointer where a record up to that one isn't aligned to 4 or leaves
-/// the memory; Badf where the number is neither a file's nor an output's; trap Pointer where the buffer leaves the
-/// memory; then of a file Badf under read-only permissions, Dquot where a bound on grown bytes would be passed, for
-/// which the host is asked for the file's size, and the host's, which are those of POSIX's `pwrite`. An answer counts
-/// the bytes by which the file grew, and so may a failure of the host.
+/// Writes the first of the buffers that isn't empty into a file at its position, or to an output, and answers how many
+/// bytes it took, as POSIX's `write`. The position moves past the bytes. In append mode they go to the file's end, and
+/// the position is then its size. An output takes all of the bytes, and so does a modelled host.
+///
+/// With a quota of grown bytes, the host is first asked for the file's size. An answer counts the bytes that the file
+/// grew, and a failure of the host may. Refusals: docs/calls.md.
 #[tactic(auto, using(wasi_p1_model::proofs::Taking::refusals), unfolding(wasi_p1_model::specs::Calls::ReadingAndWriting::fd_write))]
 pub fn fd_write<H: Host>(
     context: &mut P1State<H>,

@@ -1,4 +1,4 @@
--- A piece that is put behind a file's last byte, and a look at the file then, as the one request that they stand for.
+-- A piece that is put after a file's last byte, and a look at the file then, as the one request that they stand for.
 use Rattle.std.proofs.Common.{ℕ, ◌≡◌, inl, inr, true, List, [], ◌∷◌, length, Option, Some, None, Result, Ok, Err, refl, ap, sym, subst, ◌∙◌}
 use Rattle.std.proofs.lemmas.List.Elements.{All-weaker, All-contains_itself}
 use Rattle.std.specs.FinSet.{contains}

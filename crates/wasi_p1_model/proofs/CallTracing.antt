@@ -1,4 +1,4 @@
--- What a call adds to the look-ups, and the descriptors after it.
+-- What a call adds to the lookups, and the descriptors after it.
 use Rattle.std.proofs.Common.{ℕ, ◌≡◌, ◌≤◌, inl, inr, List, [], ◌∷◌, Some, Ok, arith, slice_get, slice_set, sym, subst}
 use Rattle.wasi_host.specs.Provenance.{HasProvenance, Only, OneOf, Nothing}
 use Rattle.wasi_host.proofs.Tracing.{traced_none, traced_then, traced_given, traced_kept}
@@ -93,7 +93,7 @@ pub traced_free : {Kept Kept' : ℕ → Type 0} {old new : List Lookup} (Given :
     → HasProvenance Nothing Kept Kept' old new → HasProvenance Given Kept Kept' old new
 traced_free Given traced = traced_given Given (λ q none. absurd none) traced
 
--- the look-ups of one call more, from the descriptors that it names
+-- the lookups of one call more, from the descriptors that it names
 pub traced_on : {Given Kept' : ℕ → Type 0} {a b c : List Lookup} (mid : List Slot) (fds : List ℕ)
     → HasProvenance (IsHandle (under (handles mid) fds)) (IsHandle (handles mid)) Kept' b c
     → HasProvenance Given Given (IsHandle (handles mid)) a b

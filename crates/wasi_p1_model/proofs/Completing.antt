@@ -1,4 +1,4 @@
--- A valid call is answered, unless memory was wanted or the host failed.
+-- A valid call is answered, unless memory ran out or the host failed.
 use Rattle.std.proofs.Common.{ℕ, ◌≡◌, ◌⊎◌, inl, inr, List, ap, sym, subst, Result, Ok, Err}
 use Rattle.std.specs.Prelude.{All, IsTrue, is_ok}
 use Rattle.wasi_host.specs.HostLaws.{HostModel}

@@ -23,7 +23,7 @@ pub uses-push : (os : List (Option ℕ)) (o : Option ℕ) (q : ℕ) → uses (os
 unfolding uses
 uses-push os o q = sum_by_push (λ o. uses_in o q) os o
 
--- one in the place of another
+-- one in place of another
 pub uses-set : (os : List (Option ℕ)) (i : ℕ) (o was : Option ℕ) (q : ℕ) → slice_get os i ≡ Some was
     → uses (slice_set os i o) q + uses_in was q ≡ uses os q + uses_in o q
 unfolding uses
@@ -107,7 +107,7 @@ is_named os fd h fds is =
     let one = ap (λ o. uses (option_to_list o) h) is in
     omega (arith, sum, one, uses-cons (Some h) [] h, no_uses h, uses_itself h)
 
--- a handle of those behind the first
+-- a handle of those after the first
 pub also_named : (os : List (Option ℕ)) (fd : ℕ) (fds : List ℕ) (q : ℕ) → IsHandle (under os fds) q
     → IsHandle (under os (fd ∷ fds)) q
 also_named os fd fds q is =

@@ -62,7 +62,7 @@ module _ {Seen : ℕ → Type 0} {t : Tree} (closed : IsClosed Seen t) where
   all_stay : StaysOr Seen t t
   all_stay n within = inl refl
 
-  -- another node in the place of one of the set, which is a directory as that was, or none
+  -- another node in place of one of the set, which is a directory as that was, or none
   put_stays : (u : Tree) (m : ℕ) (node : Node) (worked : Nodes) → StaysOr Seen t u → Seen m
       → is_directory node.content ≡ is_directory (node_at t m).content → StaysOr Seen t (changed u m node worked)
   unfolding node_at

@@ -56,7 +56,7 @@ name_still (File bytes links) = ([], links + 1, ap (λ b. File b (links + 1)) (s
 name_still (Directory names gone) = has_itself (Directory names gone)
 name_still (Link text links) = (links + 1, refl, omega arith)
 
--- a piece is put behind the last byte
+-- a piece is put after the last byte
 piece_at_end : (bytes piece : List ℕ) → with_piece bytes (length bytes) piece ≡ bytes ++ piece
 unfolding with_piece
 piece_at_end bytes piece =

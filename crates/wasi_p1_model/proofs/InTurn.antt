@@ -54,7 +54,7 @@ module _ {H : Type 0} {host : Ghosts H} {fuel : ℕ} {old now next : View H} {be
       → DoCalls host fuel old before (calls ++ call ∷ more) (answers ++ answer ∷ []) next after
   done_last more stops = so.on (call ∷ more) (answer ∷ []) next after (one, rw stops (refl, refl, refl))
 
--- memory was wanted for the answers
+-- memory ran out for the answers
 pub none_until : {H : Type 0} {host : Ghosts H} {fuel : ℕ} {old : View H} {before : List ℕ} {calls : List Call}
     → DoCallsUntil host fuel old before calls 0 old before
 none_until {old = old} {before = before} = record {
@@ -90,7 +90,7 @@ done_until {now = now} {memory = memory} {answers = answers} call so count goes 
   stands = wanting_stands wants;
 }
 
--- the call at a place of the list, between those before it and those behind it
+-- the call at a place of the list, between those before it and those after it
 pub all_calls : (calls : List Call) (i : ℕ) (d : Call) → i < length calls
     → take i calls ++ get_or calls i d ∷ drop (i + 1) calls ≡ calls
 all_calls calls i d within =

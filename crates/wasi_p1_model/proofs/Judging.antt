@@ -151,7 +151,7 @@ nothing_behind : (ws : List Waited) → ws ++ [] ≡ ws
 nothing_behind [] = refl
 nothing_behind (w ∷ ws) = ap (λ rest. w ∷ rest) (nothing_behind ws)
 
--- behind those that were kept
+-- after those that were kept
 abbrev pub kept_with : (ℕ → OpenHandle) → List Waited → List Waited → List Waited
 kept_with held all ws = map (waited_by held) all ++ ws
 

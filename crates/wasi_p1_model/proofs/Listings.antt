@@ -99,7 +99,7 @@ short_more (y ∷ xs) x all is =
     (All-head (λ (e : Entry). length e.name ≤ 255) (entry_seen y) (entries_seen xs) all)
     (short_more xs x (All-tail (λ (e : Entry). length e.name ≤ 255) (entry_seen y) (entries_seen xs) all) is)
 
--- ---- reads from a directory on, one behind another
+-- ---- reads from a directory on, one after another
 
 module _ {live mid : Handles} {w u v : HostModel} {dir : ℕ} (held : contains live dir ≡ true) (same : mid ≡ live)
     (so_far : OnlyLooks live w u ((w.held dir).node ∷ [])) where

@@ -1,7 +1,7 @@
 -- What holds of each specification: its request starts at descriptors that its call names, and may be asked of a host;
 -- no node comes to a descriptor but from the reply, and else that of the descriptor from which it stems, as its
 -- permissions do; its step is permitted to the descriptors that its call names; it isn't refused after a step, nor
--- before it asks because memory was wanted; it is refused by no error number that isn't listed; and it leaves bytes in
+-- before it asks because memory ran out; it is refused by no error number that isn't listed; and it leaves bytes in
 -- memory.
 use Rattle.std.specs.Prelude.{ℕ, ◌≡◌, ◌≢◌, ◌⊎◌, List, [], All, slice_get, Contains, IsUtf8, Some, None, Ok, Err, IfErr}
 use Rattle.wasi_fs.specs.declared.perms.FsPerms.{FsPerms}

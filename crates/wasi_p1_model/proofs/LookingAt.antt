@@ -1,4 +1,4 @@
--- Looks at what a descriptor stands for, one behind another, as the one request that they stand for.
+-- Looks at what a descriptor stands for, one after another, as the one request that they stand for.
 use Rattle.std.proofs.Common.{ℕ, ◌≡◌, true, [], ◌∷◌, Result, Ok, Err, refl, sym, subst}
 use Rattle.std.specs.FinSet.{contains}
 use Rattle.wasi_fs.specs.Calls.{flags_of, meant_as, stats, tells_flags}
@@ -38,7 +38,7 @@ use Rattle.wasi_p1_model.proofs.Resolving.{made_ok, made_not}
 abbrev pub SeenAs : {B : Type 0} → (Metadata → B) → Handles → HostModel → HostModel → ℕ → Result B HostError → Type 0
 SeenAs f live w v n result = Resolved live w v (meant_as f (stats w.tree n)) (λ b. b) result
 
--- behind a look at the same node
+-- after a look at the same node
 pub seen_through : {B : Type 0} (f : Metadata → B) {live mid : Handles} {w u v : HostModel} {h : ℕ} {result : Result B HostError}
     → contains live h ≡ true → mid ≡ live → OnlyLooks live w u ((w.held h).node ∷ [])
     → SeenAs f mid u v (u.held h).node result → SeenAs f live w v (w.held h).node result

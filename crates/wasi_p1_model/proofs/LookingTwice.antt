@@ -1,4 +1,4 @@
--- Looks at what a path names, one behind another, as the one request that they stand for.
+-- Looks at what a path names, one after another, as the one request that they stand for.
 use Rattle.std.proofs.Common.{ℕ, ◌≡◌, true, Bool, List, [], ◌∷◌, Result, Ok, Err, refl, ap, sym, subst}
 use Rattle.std.specs.FinSet.{contains}
 use Rattle.wasi_fs.specs.Calls.{meant_as}
@@ -34,7 +34,7 @@ means_again f g m (Code Io) means = tt
 means_again f g (Ok a) (Code code) means = absurd (cc)
 means_again f g (Err was) (Code code) means = let same : was ≡ code = cc in ap Err same
 
--- behind a look at the same path
+-- after a look at the same path
 pub looked_through : {B : Type 0} (f : Metadata → B) {live mid : Handles} {w u v : HostModel} {h : ℕ} {result : Result B HostError}
     (text : List ℕ) (follow : Bool) → contains live h ≡ true → mid ≡ live → OnlyLooks live w u ((w.held h).node ∷ [])
     → LooksAs f mid u v (u.held h).node text follow result → LooksAs f live w v (w.held h).node text follow result

@@ -79,7 +79,7 @@ module _ {A : Type 0} (p : A → Bool) where
       by None rest true at is = let same : 0 ≡ i = (cc) in subst (λ n. passes_at p (x ∷ xs) n ≡ true) same at
       by None rest false at is = absurd (cc)
 
-  -- where none is closed a new item stands behind all, and else under the largest closed number
+  -- where none is closed a new item stands after all, and else under the largest closed number
   pub new_behind : (xs : List A) (y : A) → ((n : ℕ) → passes_at p xs n ≡ false)
       → (length xs ≡ free_number p xs) × (xs ++ y ∷ [] ≡ with_new p xs y)
   unfolding free_number with_new
@@ -165,7 +165,7 @@ given_behind place (q ∷ qs) p =
     ap (λ slots. preopen_slot place q ∷ slots)
     (given_behind (suc place) qs p ∙ ap (λ n. preopen_slots (suc place) qs ++ preopen_slot n p ∷ []) same)
 
--- so that one more stands behind them
+-- so that one more stands after them
 pub given_more : (place : ℕ) (preopens : List P1Preopen) (p : P1Preopen) → length preopens ≡ place
     → with_new is_closed_slot (first_slots preopens) (preopen_slot place p) ≡ first_slots (preopens ++ p ∷ [])
 unfolding with_new

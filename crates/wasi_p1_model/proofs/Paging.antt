@@ -92,7 +92,7 @@ pub front_length : (n : ℕ) (xs ys : List ℕ)
 front_length n xs ys =
     sym (ap length (front_joined n xs ys) ∙ length-append (take n xs) (take (n - length (take n xs)) ys))
 
--- and is written by writing the one behind the other
+-- and is written by writing the one after the other
 pub front_written : (memory : List ℕ) (at room : ℕ) (xs ys : List ℕ) → at + room ≤ length memory
     → with_bytes (with_bytes memory at (take room xs)) (at + length (take room xs)) (take (room - length (take room xs)) ys)
     ≡ with_bytes memory at (take room (xs ++ ys))

@@ -119,7 +119,7 @@ step most next e rest small fits =
     (λ i. drop ((size ∙ sym (record_length next e)) i) (joined i)) ∙ drop-append_seam (record_of next e) rest in
     cond-true _ _ _ room ∙ (λ i. read_back next e rest small fits i ∷ whole_up_to most (on i))
 
--- what stands whole in the records behind, in however many steps they are read
+-- what stands whole in the records after, in however many steps they are read
 ReadsRest : ℕ → ℕ → List Entry → Type 0
 ReadsRest k n es = (most : ℕ) → length (take n (records_from k es)) ≤ most
     → whole_up_to most (take n (records_from k es)) ≡ as_read k (take (fitting n es) es)
@@ -239,7 +239,7 @@ goes_on {listing = listing} {c = c} one =
     ap (cookie_after c) one.is ∙ resumed c (take one.k (drop c listing))
     ∙ ap (λ n. c + n) (sym (ap length one.is ∙ length_numbered c (take one.k (drop c listing))))
 
--- these, and then those behind them
+-- these, and then those after them
 read_more : {listing : List Entry} {c : ℕ} {seen rest : List ReadRecord} → Read listing c seen
     → Read listing (c + length seen) rest → Read listing c (seen ++ rest)
 read_more {listing = listing} {c = c} {seen = seen} one two =
@@ -289,7 +289,7 @@ all_read {listing = listing} one enough =
     let size = read_length one in
     one.is ∙ ap (as_read 0) (take_all one.k listing (omega arith))
 
--- a page with a record, or none is left, and enough pages behind
+-- a page with a record, or none is left, and enough pages after
 with_more : (listing : List Entry) (c : ℕ) (seen rest : List ReadRecord) (pages : ℕ)
     → length seen ≤ length (drop c listing) → (c < length listing → 0 < length seen)
     → cookie_after c seen ≡ c + length seen → length (drop c listing) ≤ suc pages

@@ -266,9 +266,9 @@ pub all_done_turns : {before now : FaultCount} {old new : State} {calls : List F
 unfolding all_done
 all_done_turns so = refl
 
--- ---- want of memory
+-- ---- out of memory
 
--- no answer is want of memory
+-- no answer is out of memory
 pub wanted_memory : {r : Result Value P1Error} → answer_of r ≡ None → r ≡ Err Memory
 wanted_memory {r = Ok x} is = absurd (cc)
 wanted_memory {r = Err (Errno e)} is = absurd (cc)

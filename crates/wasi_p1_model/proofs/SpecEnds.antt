@@ -31,7 +31,7 @@ with_slots g p = (Number p.0, record g { slots = p.1 })
 abbrev pub with_text : Guest → ℕ × List ℕ → Value × Guest
 with_text g p = (Number p.0, record g { memory = p.1 })
 
--- and the file's position is behind what was read
+-- and the file's position is after what was read
 abbrev pub with_memory : ℕ → OpenFile → Guest → ℕ × List ℕ → Value × Guest
 with_memory fd f g p = (Number p.0, record (with_file g fd (at_position f (f.position + p.0))) { memory = p.1 })
 

@@ -109,7 +109,7 @@ pub on_err : {H : Type 0} {modelled : Bool} {model : H → HostModel} {faults : 
     → FollowsSpec modelled model faults lookups old new before after call result
 on_err {result = result} is follows = let error = err_from_is_err_and result is in rw (error.1, error.2) follows
 
--- memory was wanted before anything was asked, where the specification's front gives this
+-- memory ran out before anything was asked, where the specification's front gives this
 wanted_by : {H : Type 0} {modelled : Bool} {model : H → HostModel} {faults : H → FaultCount} {lookups : H → List Lookup}
     {view : View H} {memory : List ℕ} {call : Call} {left : ℕ} (m : CallResult (Program (Value × Guest))) → IsTrue (may_run_out_of_memory call)
     → (m, left) ≡ front (guest_of model view memory) call view.fuel
@@ -132,7 +132,7 @@ wanted_by {H} {modelled} {model} {faults} {lookups} {view} {memory} {call} {left
     new : View H
     new = record view { fuel = left }
 
--- in the place of an error number
+-- in place of an error number
 pub wanted : {H : Type 0} {modelled : Bool} {model : H → HostModel} {faults : H → FaultCount} {lookups : H → List Lookup}
     {view : View H} {memory : List ℕ} {call : Call} {number : ErrorNumber} {left : ℕ} → IsTrue (may_run_out_of_memory call)
     → (Err (Errno number), left) ≡ front (guest_of model view memory) call view.fuel

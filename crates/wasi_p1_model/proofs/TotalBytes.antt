@@ -32,12 +32,12 @@ within_then first second =
     let nodes' = second.nodes in
     let bytes' = second.bytes in record { nodes = omega arith; bytes = omega arith }
 
--- ---- nodes in the place of others
+-- ---- nodes in place of others
 
 abbrev node_bytes : Node → ℕ
 node_bytes node = length (bytes_of node.content)
 
--- one node in the place of another
+-- one node in place of another
 total_set : (nodes : List Node) (n : ℕ) (node : Node)
     → sum_by node_bytes (slice_set nodes n node) + node_bytes (slice_index_or nodes n stray)
     ≤ sum_by node_bytes nodes + node_bytes node
@@ -132,7 +132,7 @@ write_within t n offset (byte ∷ bytes) =
     written_to t n (λ old. with_piece old offset (byte ∷ bytes)) (offset + length (byte ∷ bytes))
     (λ old. let long = length-with_piece old offset (byte ∷ bytes) in omega arith)
 
--- a piece behind the last byte
+-- a piece after the last byte
 append_within : (t : Tree) (n : ℕ) (piece : List ℕ) → Within 0 (length piece) t (append_step t n piece)
 unfolding write_step
 append_within t n [] = within_itself

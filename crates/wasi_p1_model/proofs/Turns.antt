@@ -44,7 +44,7 @@ pub refused : {rose : Type 0} {w : HostModel} {g : Guest} {call : FueledCall} {e
     → Turns rose w w g g call (Err e)
 refused {e = e} is = turns (Err e) is (inl (record { stays = refl; spec_is = refl }), touches_same refl)
 
--- memory was wanted
+-- memory ran out
 pub wants_memory : {rose : Type 0} {w : HostModel} {g : Guest} {call : FueledCall} → Turns rose w w g g call (Err Memory)
 wants_memory {g = g} {call = call} =
     turns (call_spec g call) refl (inr (inl (record { memory = refl; stays = refl })), touches_same refl)

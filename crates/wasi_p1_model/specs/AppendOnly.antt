@@ -35,7 +35,7 @@ pub data Adds (t u : Tree) : Type 0 where
 
 -- ---- what stays
 
--- A content has what another had: a file its bytes, and maybe more behind them; a directory each name, which holds the
+-- A content has what another had: a file its bytes, and maybe more after them; a directory each name, which holds the
 -- node that it held; a link its text. A file or link has lost no name
 abbrev pub HasStill : Content → Content → Type 0
 HasStill (File bytes links) now = (more : List ℕ) × (names : ℕ) × (now ≡ File (bytes ++ more) names) × (links ≤ names)

@@ -32,7 +32,7 @@ pub record Causes {A : Type 0} (before now : FaultCount) (result : Result A P1Er
 abbrev pub OthersStay : {H : Type 0} → (H → Handles) → View H → View H → Type 0
 OthersStay live old new = unowned (live new.host) (handles new.slots) ≡ unowned (live old.host) (handles old.slots)
 
--- the look-ups that a call adds begin from the descriptors that it names
+-- the lookups that a call adds begin from the descriptors that it names
 abbrev pub Looks : {H : Type 0} → (H → List Lookup) → View H → View H → List ℕ → Call → Type 0
 Looks lookups old new memory call = CallTraced old.slots new.slots memory call (lookups old.host) (lookups new.host)
 
@@ -83,12 +83,12 @@ pub record KeptBut {H : Type 0} (call : Call) (e : P1Error) (old new : View H) (
   pub uses : OnlyUses call e old.holdings new.holdings
   pub memory : after ≡ before
 
--- the host was asked nothing that it could fail at, and no look-up was made
+-- the host was asked nothing that it could fail at, and no lookup was made
 pub record Quiet {H : Type 0} (faults : H → FaultCount) (lookups : H → List Lookup) (old new : View H) : Type 0 where
   pub failed : faults new.host ≡ faults old.host
   pub looked : lookups new.host ≡ lookups old.host
 
--- a specification that needs no tree: its answer and its guest, of a quiet host; or want of memory
+-- a specification that needs no tree: its answer and its guest, of a quiet host; or out of memory
 abbrev pub IsDone : Type 0 → Type 0 → Guest → Result Value P1Error → Value × Guest → Type 0
 IsDone same quiet g' (Ok x) p = (p ≡ (x, g')) × quiet
 IsDone same quiet g' (Err e) p = (e ≡ Memory) × same
@@ -132,7 +132,7 @@ pub record FollowsSpec {H : Type 0} (modelled : Bool) (model : H → HostModel) 
 abbrev pub IsValidCall : State → FueledCall → Type 0
 IsValidCall s call = IsTrue (is_ok (turn s call))
 
--- it was answered; or memory was wanted, by a call that takes some
+-- it was answered; or memory ran out, by a call that takes some
 abbrev pub IsAnswered : Call → Result Value P1Error → Type 0
 IsAnswered call (Ok x) = Unit {0}
 IsAnswered call (Err e) = (e ≡ Memory) × IsTrue (may_run_out_of_memory call)

@@ -25,6 +25,6 @@ IsListed e = IsTrue (is_entry_name (string_bytes e.name))
 abbrev pub reads_from : {B : Type 0} → Tree → ℕ → Result B ErrorCode → Meant B
 reads_from t d answer = record { starts = d ∷ []; answer = answer; stepped = t; ends = [] }
 
--- the entries of such names, behind those by which the directory lists itself
+-- the entries of such names, after those by which the directory lists itself
 abbrev pub numbered_behind : Tree → ℕ → ℕ → List Listed → Result (List Entry) ErrorCode
 numbered_behind t d node names = all_numbered_at t d names >>= (λ entries. Ok (dots node ++ entries))

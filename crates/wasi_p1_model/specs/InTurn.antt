@@ -48,7 +48,7 @@ WantsFrom host fuel old before calls n new after =
     ((call : Call) × (slice_get calls n ≡ Some call) × DoesCall host fuel old new before after call (Err Memory))
     ⊎ ((n ≡ 0) × (new ≡ old) × (after ≡ before))
 
--- The first n calls were answered, none of them so that it ends the run, and then memory was wanted: all stands as
+-- The first n calls were answered, none of them so that it ends the run, and then memory ran out: all stands as
 -- after these
 pub record DoCallsUntil {H : Type 0} (host : Ghosts H) (fuel : ℕ) (old : View H) (before : List ℕ) (calls : List Call)
     (n : ℕ) (new : View H) (after : List ℕ) : Type 0 where

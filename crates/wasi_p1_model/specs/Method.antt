@@ -9,7 +9,7 @@ use Rattle.wasi_p1_types.specs.Slots.{View}
 use Rattle.wasi_p1_types.specs.declared.error.P1Error.{P1Error}
 
 -- whatever its specification: the host fails only where its count of faults rises, the live handles that belong to no
--- descriptor stay, and look-ups begin from the descriptors that the call names; a call without a path that lists no
+-- descriptor stay, and lookups begin from the descriptors that the call names; a call without a path that lists no
 -- directory makes none
 pub record KeepsHostLaws {H : Type 0} (host : Ghosts H) (old new : View H) (memory : List ℕ) (call : Call)
     (result : Result Value P1Error) : Type 0 where

@@ -65,7 +65,7 @@ pub record Owns (live live' : Handles) (os os' : List (Option ℕ)) : Type 0 whe
 abbrev pub under : List (Option ℕ) → List ℕ → List (Option ℕ)
 under os fds = flat_map (λ fd. option_to_list (slice_get os fd)) fds
 
--- The look-ups that are added begin from these handles, or from what an earlier one got; and a descriptor's handle was
+-- The lookups that are added begin from these handles, or from what an earlier one got; and a descriptor's handle was
 -- a descriptor's before, or one of them got it
 abbrev pub SlotsTraced : (ℕ → Type 0) → List Slot → List Slot → List Lookup → List Lookup → Type 0
 SlotsTraced Given table table' old new = HasProvenance Given (IsHandle (handles table)) (IsHandle (handles table')) old new

@@ -57,7 +57,7 @@ abbrev pub PagesHaveAll : Type 0
 PagesHaveAll = (listing : List Entry) (sizes : List ℕ) → ListingFits listing → EachHolds listing 0 sizes →
     length listing ≤ length sizes → read_by listing 0 sizes ≡ all_records listing
 
--- an empty page, of a buffer that isn't empty, behind the last record that was read: all were read
+-- an empty page, of a buffer that isn't empty, after the last record that was read: all were read
 abbrev pub EmptyPageEnds : Type 0
 EmptyPageEnds = (listing : List Entry) (sizes : List ℕ) (n : ℕ) → ListingFits listing → 0 < n →
     page listing (cookie_after 0 (read_by listing 0 sizes)) n ≡ [] → read_by listing 0 sizes ≡ all_records listing

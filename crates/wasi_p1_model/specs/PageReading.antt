@@ -5,7 +5,7 @@ use Rattle.wasi_guest.specs.declared.dirent.Dirent.{Dirent}
 use Rattle.wasi_p1_types.specs.Listing.{Entry}
 use Rattle.wasi_p1_model.specs.Pages.{dirent_of, record_size, page}
 
--- a record that was read, and the name behind it
+-- a record that was read, and the name after it
 pub record ReadRecord : Type 0 where
   pub dirent : Dirent
   pub name : List ℕ

@@ -16,7 +16,7 @@ dirent_of next e = record {
   d_type = filetype_number (filetype_of (descriptor_type e.kind));
 }
 
--- its record, and behind that the name
+-- its record, and after that the name
 unfoldable pub record_of : ℕ → Entry → List ℕ
 record_of next e = dirent_bytes (dirent_of next e) ++ e.name
 

@@ -1,4 +1,4 @@
--- How a piece is put into a file: in append mode behind its last byte, and else from an offset on.
+-- How a piece is put into a file: in append mode after its last byte, and else from an offset on.
 use Rattle.std.specs.Prelude.{ℕ, ◌+◌, Bool, true, false, List, length}
 use Rattle.wasi_host.specs.Answer.{HostAnswer}
 use Rattle.wasi_host.specs.HostCall.{HostCall, Append, Pwrite}
@@ -33,7 +33,7 @@ put_request false f offset piece = Direct (Pwrite f offset piece)
 abbrev pub appended_in : ℕ × Metadata → Put
 appended_in put = record { count = put.0; position = put.1.size }
 
--- how many bytes the file took, and its position: in append mode its size, and else behind the bytes
+-- how many bytes the file took, and its position: in append mode its size, and else after the bytes
 abbrev pub put_in : (append : Bool) (f : OpenHandle) (offset : ℕ) (piece : List ℕ)
     → Reply (put_request append f offset piece) → Put
 put_in true f offset piece put = appended_in put

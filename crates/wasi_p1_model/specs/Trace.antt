@@ -23,7 +23,7 @@ use Rattle.wasi_guest.specs.declared.answer.Value.{Value}
 use Rattle.wasi_p1_types.specs.declared.error.RunError.{RunError}
 use Rattle.wasi_p1_types.specs.declared.error.RunError.TheVariants as errors
 
--- what a call is answered; want of memory is no answer
+-- what a call is answered; out of memory is no answer
 abbrev pub answer_of : Result Value P1Error → Option Answer
 answer_of (Ok x) = Some (answers.Ok x)
 answer_of (Err (Errno e)) = Some (answers.Errno e)
@@ -138,7 +138,7 @@ pub record RefinesTrace (before now : FaultCount) (old : State) (calls : List Fu
   pub complete : All IsComplete turns
   pub ends_touched : All (λ n. contains touched n ≡ true) (named turns)
 
--- want of memory: all stands as after the first n calls, none of which was answered so that it ends the run
+-- out of memory: all stands as after the first n calls, none of which was answered so that it ends the run
 pub record StoodAt (before now : FaultCount) (old : State) (calls : List FueledCall) (n : ℕ) (new : State)
     (touched : Nodes) : Type 0 where
   pub answers : List Answer
@@ -152,6 +152,6 @@ abbrev pub OutOfMemoryAt : {H : Type 0} → View H → View H → List ℕ → L
 OutOfMemoryAt old new before after calls n =
     (option_map may_run_out_of_memory (slice_get calls n) ≡ Some true) ⊎ ((n ≡ 0) × (new ≡ old) × (after ≡ before))
 
--- how many calls were answered before memory was wanted
+-- how many calls were answered before memory ran out
 abbrev pub answered_in : RunError → ℕ
 answered_in (errors.Memory n) = n

@@ -15,7 +15,7 @@ pub record SpecRefuses (before after : State) (e : P1Error) (call_spec : CallRes
   pub stays : after ≡ before
   pub spec_is : call_spec ≡ Err e
 
--- memory was wanted, and the state stays
+-- memory ran out, and the state stays
 pub record Wants (before after : State) (e : P1Error) : Type 0 where
   pub memory : e ≡ Memory
   pub stays : after ≡ before
@@ -45,7 +45,7 @@ pub record Faults (rose reaches : Type 0) (used : Guest) (before after : State) 
   pub came : reaches
   pub state : AfterFault used before after call_spec
 
--- the answer and the state after it are the specification's; or memory was wanted; or the host failed
+-- the answer and the state after it are the specification's; or memory ran out; or the host failed
 abbrev pub IsTransition : Type 0 → Type 0 → Guest → State → State → Result Value P1Error → CallResult (Value × State) → Type 0
 IsTransition rose reaches used before after (Ok x) call_spec = call_spec ≡ Ok (x, after)
 IsTransition rose reaches used before after (Err e) call_spec =

@@ -19,11 +19,11 @@ use Rattle.wasi_p1_types.specs.Request.{size_at}
 use Rattle.wasi_p1_model.specs.Calls.{turn}
 use Rattle.wasi_p1_types.specs.Services.{written}
 
--- where a piece is put into a file: behind its last byte in append mode, and else at its position
+-- where a piece is put into a file: after its last byte in append mode, and else at its position
 abbrev pub put_from : Tree → OpenFile → ℕ
 put_from t f = if f.modes.append then length (bytes_of (node_at t f.node).content) else f.position
 
--- where the position is then: in append mode it is the file's size, and else it is behind the piece
+-- where the position is then: in append mode it is the file's size, and else it is after the piece
 abbrev pub put_to : Tree → OpenFile → List ℕ → ℕ
 put_to t f piece = if f.modes.append then size_of (node_at t f.node).content else f.position + length piece
 
@@ -40,7 +40,7 @@ abbrev pub file_after : Guest → ℕ → OpenFile → List ℕ → ℕ → Tree
 file_after g fd f piece growth t =
     record { tree = t; guest = with_grown growth (with_file g fd (at_position f (put_to t f piece))) }
 
--- A piece is put whole behind what was written to an output, or into a file, whose growth is counted where a bound is
+-- A piece is put whole after what was written to an output, or into a file, whose growth is counted where a bound is
 -- set; and nothing else changes
 abbrev pub written_to : State → ℕ → List ℕ → WriteTarget → State
 written_to s fd piece (output o) =

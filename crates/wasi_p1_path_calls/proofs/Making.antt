@@ -47,7 +47,7 @@ made_refused {e = e} {fuel = fuel} true (Some code) r next shown g is =
 made_refused {e = e} {fuel = fuel} false (Some code) r next shown g is =
     let same : Errno (errno_of code) ≡ e = (cc) in ap (λ f. (Err f, fuel)) same
 
--- a making behind what has to be permitted
+-- a making after what has to be permitted
 permit_first : (fuel : ℕ) (b : Bool) (own : Option ErrorCode) (g : Guest) (call_spec : CallFront)
     → (free (permit own) >>= (λ _. making b g call_spec)) fuel ≡ making b g (free (permit own) >>= (λ _. call_spec)) fuel
 permit_first fuel b None g call_spec = refl

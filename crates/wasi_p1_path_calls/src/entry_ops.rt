@@ -132,7 +132,7 @@ impl<'p, H: Host> EntryOp<H> for ReadlinkAt<'p> {
     }
 }
 
-/// What is said of the node that a path names.
+/// The metadata of the node that a path names.
 #[derive(Clone, Copy)]
 pub struct StatAt<'p> {
     pub flags: PathFlags,

@@ -21,7 +21,7 @@ use wasi_p1_state::views::below;
 use wasi_p2_calls::types::PathFlags;
 use wasi_p2_calls::{FsResult, WasiFilesystemCtx};
 
-/// What is told of the node that a path names: the two answers of its directory, which make one record.
+/// The metadata of the node that a path names: the two answers of its directory, which make one record.
 pub fn stat_both<H: Host>(
     fs: &mut WasiFilesystemCtx<H>,
     descriptors: &mut Descriptors,

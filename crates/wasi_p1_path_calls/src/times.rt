@@ -11,16 +11,10 @@ use wasi_p1_state::views::below;
 use wasi_p1_types::open_with::path_flags_of;
 use wasi_p1_types::{NewTimes, P1Error, text_at};
 
-/// Sets the times of the last read and of the last change of the node that the path in a range of memory names,
-/// from the directory of a descriptor: each by preview1's `fstflags` to the given nanoseconds since the epoch or to
-/// what the wall clock stands at, or not at all. SYMLINK_FOLLOW follows a link under the last name; without it a
-/// link's times are its own. Refusals, in this order: Inval of an unknown flag; of the first and then of the second
-/// time Inval where it is both given and the wall clock's, Overflow where the wall clock is asked for and an i64
-/// doesn't hold its seconds; those of `path_remove_directory` up to Perm; without SYMLINK_FOLLOW those of the walk
-/// to the directory of the name, as in `path_open`, those of every host call by a name, as in
-/// `path_create_directory`, and then that of POSIX's `utimensat`: Noent where the name is missing. With it those of
-/// an open of the path for writing, as in `path_open`; where that is refused Acces or Isdir, those of one for
-/// reading, of which Acces is answered Notsup.
+/// Sets the times of the last read and the last change of the node at the path in a range of memory, from the directory
+/// of a descriptor, as POSIX's `utimensat`. The `fstflags` of the preview1 specification set each to the given
+/// nanoseconds since the epoch or to the wall clock, or leave it. The flag `symlink_follow` follows a link under the
+/// last name; without it a link gets the times itself. Refusals: docs/calls.md.
 #[tactic(auto, using(wasi_p1_model::proofs::Taking::refusals, wasi_p1_model::proofs::CallTracing::traced_below), unfolding(wasi_p1_model::specs::Calls::Times::path_filestat_set_times))]
 pub fn path_filestat_set_times<H: Host>(
     context: &mut P1State<H>,

@@ -49,7 +49,7 @@ module _ {heap : List ℕ} {table : List Slot} (holds : HoldsClosed heap table) 
   abbrev closed_at : ℕ → Bool
   closed_at n = passes_at is_closed_slot table n
 
-  -- and with a slot in the place of another
+  -- and with a slot in place of another
   abbrev closed_then : Slot → ℕ → ℕ → Bool
   closed_then slot i n = passes_at is_closed_slot (slice_set table i slot) n
 
@@ -68,7 +68,7 @@ module _ {heap : List ℕ} {table : List Slot} (holds : HoldsClosed heap table) 
   is_counted : (n : ℕ) → closed_at n ≡ true → 1 ≤ times n heap
   is_counted n is = let one = ap one_if is in omega (arith, holds.each n, one)
 
-  -- ---- an empty heap: the new descriptor stands behind all
+  -- ---- an empty heap: the new descriptor stands after all
 
   pub pushed_new : (slot : Slot) → length heap ≡ 0
       → (length table ≡ free_number is_closed_slot table) × (table ++ slot ∷ [] ≡ with_new is_closed_slot table slot)

@@ -88,7 +88,7 @@ are_live {table} {items} named = record {
   all = named.all;
 }
 
--- ---- one item in the place of another, while the table changes at their resources alone
+-- ---- one item in place of another, while the table changes at their resources alone
 
 pub record Changes (table table' : Entries) (items : List Item) (i : ℕ) (y : Item) : Type 0 where
   pub within : i < length items
@@ -332,7 +332,7 @@ module _ {table table' : Entries} {items : List Item} {item : Item} {slot : Slot
     pub taken_slots : slots_of table' (slice_set items i item) ≡ slice_set (slots_of table items) i slot
     taken_slots = changed_slots named changes ∙ ap (slice_set (slots_of table items) i) admitted.stands
 
-  -- behind all
+  -- after all
   last : get_or (items ++ Closed ∷ []) (length items) Closed ≡ Closed
   last = get_or_push items Closed Closed (length items) refl
 

@@ -31,7 +31,7 @@ use Rattle.wasi_p1_state.proofs.Naming.{one}
 
 module _ {H : Type 0} (host : Ghosts H) (old new : Files H) (fd : ℕ) (dir : Dir) (path : List ℕ) (how : OpenHow)
     (stands : get old.table.entries fd ≡ Some (AnOpened (descriptors.Dir dir))) where
-  -- the look-ups begin from the directory, and the new handle was got
+  -- the lookups begin from the directory, and the new handle was got
   looks_below : (r : Result Resource FsError) (answer : Result Descriptor HostError)
       → ((q : ℕ) → GotOpened answer q → GotFor new.table.entries r q)
       → HasProvenance (HasIt old.table.entries fd) Nothing (GotFor new.table.entries r) (host.lookups old.ctx.host)

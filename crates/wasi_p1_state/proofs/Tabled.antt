@@ -47,7 +47,7 @@ module _ {heap : List ℕ} {capacity : ℕ} {items : List Item} {table : Entries
             ));
           }
 
-      -- behind all
+      -- after all
       pub behind_kept : {more : ℕ} → length items < more → AreKept heap more (items ++ item ∷ []) table'
       behind_kept room = record {
         indexed = rw (behind_slots kept.named admitted) (record {

@@ -233,7 +233,7 @@ directories_stand {dir} {dir'} table m n first second =
     ap (λ o. both_found o (directory_at table n)) (directory_stands table m first)
     ∙ ap (λ o. both_found (let found : Result Dir FsError = Ok dir in found) o) (directory_stands table n second)
 
--- look-ups that begin from it
+-- lookups that begin from it
 pub traced_only : {d : Descriptor} {Kept Kept' : ℕ → Type 0} {old new : List Lookup} (table : Entries) (n : ℕ)
     → get table n ≡ Some (entries.Descriptor d) → HasProvenance (HasIt table n) Kept Kept' old new
     → HasProvenance (Only (handle_of d)) Kept Kept' old new
@@ -282,7 +282,7 @@ timed {old = old} {atime = atime} {mtime = mtime} (Ok x) atim mtim first second 
       ∙ ap (with_wanted x (Ok atime)) second) call.did;
 }
 
--- look-ups that begin from one of two
+-- lookups that begin from one of two
 pub traced_either : {g h : ℕ} {Kept Kept' : ℕ → Type 0} {old new : List Lookup} (table : Entries) (m n : ℕ)
     → entry_handle (get table m) ≡ Some g → entry_handle (get table n) ≡ Some h
     → HasProvenance (OneHasIt table m n) Kept Kept' old new → HasProvenance (OneOf g h) Kept Kept' old new

@@ -12,15 +12,15 @@ use wasi_p2_calls::WasiFilesystemCtx;
 use wasi_streams::ResourceTable;
 
 /// The state of one guest: preview2's files of a host, the guest's descriptors, and its environment. The preopens are
-/// descriptors from the first, so the files have none of their own. The calls are functions over it, which have its fields;
-/// `WasiP1Ctx` keeps them to itself.
+/// descriptors from the first, so the files have none of their own. The calls are functions over it, which have its
+/// fields; `WasiP1Ctx` keeps them to itself.
 #[derive(Drop)]
 pub struct P1State<H: Host> {
     /// The host, and no preopens.
     pub fs: WasiFilesystemCtx<H>,
-    /// What stands under each number.
+    /// What each number refers to.
     pub descriptors: Descriptors,
-    /// What the guest is handed in, and what it wrote.
+    /// The guest's environment, and what it wrote.
     pub holdings: GuestEnv,
     /// What is left for calls to take.
     pub fuel: u64,
@@ -58,7 +58,7 @@ pub struct CtxRefused<H: Host> {
 #[derive(Drop)]
 pub struct Ended<H: Host> {
     pub host: H,
-    /// What the guest has left of what it was handed in, and what it wrote.
+    /// What the guest has left of its environment, and what it wrote.
     pub holdings: GuestEnv,
 }
 
@@ -77,8 +77,8 @@ impl<H: Host> P1State<H> {
     /// given, in order, which takes their handles over. Each handle is live, and given once. Nothing is asked of the
     /// host. The names are kept for `fd_prestat_get` and `fd_prestat_dir_name`. The fuel left is `FUEL`.
     ///
-    /// Each live descriptor is an entry of the resource table, which has `table_max` entries at most: Full exactly where
-    /// the streams and the directories are more.
+    /// Each live descriptor is an entry of the resource table, which has `table_max` entries at most: Full exactly
+    /// where the streams and the directories are more.
     ///
     /// The two moments of the wall clock may be any: whole seconds are carried out of their nanoseconds, and a call is
     /// refused Overflow where it can't tell or set one.
@@ -131,8 +131,8 @@ impl<H: Host> P1State<H> {
         self.fuel = fuel;
     }
 
-    /// Sets how much the guest may make and grow from now on, and both counts to 0. Each bound is at most 2^62. It takes
-    /// no memory. A new context has no bound.
+    /// Sets how much the guest may make and grow from now on, and both counts to 0. Each bound is at most 2^62. It
+    /// takes no memory. A new context has no bound.
     pub fn set_quota(&mut self, quota: Quota)
         requires quota { IsQuota quota }
         ensures set { self.new ≡ record self.old { holdings = with_quota quota self.old.holdings } }
@@ -155,8 +155,8 @@ impl<H: Host> P1State<H> {
         let _descriptors = &self.descriptors;
     }
 
-    /// The resource table. Its live entries are the live descriptors: each has one of its own, of what it stands for, and
-    /// there are no others.
+    /// The resource table. Its live entries are the live descriptors: each has one of its own, of what it refers to,
+    /// and there are no others.
     pub fn table(&self) -> &ResourceTable
         ensures entries { AreLiveDescriptors result.now.entries self.now.slots }
         ensures max { result.now.max ≡ self.now.table_max }
@@ -211,8 +211,8 @@ impl<H: Forget> P1State<H> {
     ghost use Rattle.wasi_host.specs.HostLaws.{forgotten};
     ghost use Rattle.wasi_host.specs.Tree.{Tree};
 
-    /// Has the host forget which nodes were touched, so that those of the calls to come are known by themselves. All else
-    /// stays. It takes no memory.
+    /// Has the host forget which nodes were touched, so that those of the calls to come are known by themselves. All
+    /// else stays. It takes no memory.
     pub fn forget_touched(&mut self)
         ensures kept { self.new ≡ record self.old { host = self.new.host } }
         ensures faults { H.faults self.new.host ≡ H.faults self.old.host }

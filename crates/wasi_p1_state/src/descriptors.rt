@@ -36,9 +36,9 @@ use wasi_streams::ResourceTable;
 /// How many standard streams there are.
 const STREAMS: usize = 3;
 
-/// What stands under each number, by the resource that it names. The closed numbers stand in a heap beside, so that the
-/// largest is found without a look at all descriptors; its room is taken as numbers are first given, so that closing one
-/// takes no memory.
+/// What each number refers to, by the resource that it names. The closed numbers stand in a heap beside, so that the
+/// largest is found without a look at all descriptors; its room is taken as numbers are first given, so that closing
+/// one takes no memory.
 #[derive(Drop)]
 pub struct Descriptors {
     pub(crate) items: Vec<Item>,
@@ -145,7 +145,7 @@ impl Descriptors {
         Ok(descriptors)
     }
 
-    /// What stands under a number, if it was ever given.
+    /// What a number refers to, if it was ever given.
     pub fn get(&self, fd: u32) -> Option<Slot>
         ensures { result ≡ slice_get self.now.slots fd }
     {

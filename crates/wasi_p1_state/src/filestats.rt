@@ -1,4 +1,4 @@
-//! The record that tells of a node.
+//! The record `filestat`: the metadata of a node.
 ghost use Rattle.std.specs.Prelude.{◌≡◌, false, IfErr};
 ghost use Rattle.wasi_p1_types.specs.CallParts.{WantsNoMemory, is_failure};
 ghost use Rattle.wasi_p1_state.specs.ViewedStats.{filetype_named, viewed_filestat, wall_nanoseconds};
@@ -44,7 +44,8 @@ fn wall_nanoseconds(moment: Option<WallDatetime>) -> Result<u64, P1Error>
 }
 
 impl ViewedStat {
-    /// The record. A time before the epoch stands as 0. Refusal: Overflow of one that 64 bits of nanoseconds don't hold.
+    /// The record. A time before the epoch stands as 0. Refusal: Overflow of one that 64 bits of nanoseconds don't
+    /// hold.
     #[tactic(auto, unfolding(crate::specs::ViewedStats::viewed_filestat))]
     pub fn filestat(&self) -> Result<Filestat, P1Error>
         ensures specified { result ≡ viewed_filestat self.now }

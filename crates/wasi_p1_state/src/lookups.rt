@@ -23,7 +23,7 @@ use wasi_p1_types::{
     WriteTarget,
 };
 
-/// What a live number stands for.
+/// What a live number refers to.
 #[tactic(auto, using(wasi_p1_model::proofs::SlotRules::slots))]
 pub fn live_at<H: Host>(host: &H, descriptors: &Descriptors, fd: u32) -> Result<Slot, P1Error>
     ensures is { IfOk result (λ slot. slice_get descriptors.now.slots fd ≡ Some slot) }

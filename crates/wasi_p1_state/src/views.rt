@@ -106,7 +106,7 @@ pub fn below<H: Host, C: EntryOp<H>>(
     call.made(&mut view, resource)
 }
 
-/// A call of a view about what a descriptor stands for, which looks up no name.
+/// A call of a view about what a descriptor refers to, which looks up no name.
 pub trait NodeCall<H: Host> {
     /// What it answers.
     type Gives;
@@ -134,7 +134,7 @@ pub trait NodeCall<H: Host> {
             (Did self view.old.ctx.now.host view.new.ctx.now.host) result };
 }
 
-/// Makes a call about what a number stands for. `descriptor` is named by the clauses alone.
+/// Makes a call about what a number refers to. `descriptor` is named by the clauses alone.
 pub fn about<H: Host, C: NodeCall<H>>(
     fs: &mut WasiFilesystemCtx<H>,
     descriptors: &mut Descriptors,

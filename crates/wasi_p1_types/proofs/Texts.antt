@@ -18,7 +18,7 @@ total_more f xs i x within is =
 
 -- ---- writing
 
--- two writes, one behind the other, are one
+-- two writes, one after the other, are one
 pub with_both : (memory : List ℕ) (at : ℕ) (xs ys : List ℕ) → at + (length xs + length ys) ≤ length memory
     → with_bytes (with_bytes memory at xs) (at + length xs) ys ≡ with_bytes memory at (xs ++ ys)
 with_both memory at xs ys inside =

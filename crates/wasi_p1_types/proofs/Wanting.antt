@@ -1,4 +1,4 @@
--- No part of a specification is refused because memory was wanted, nor by an error number that no call is answered.
+-- No part of a specification is refused because memory ran out, nor by an error number that no call is answered.
 use Rattle.std.proofs.Common.{refl, ◌≡◌, ◌+◌, ◌*◌, ◌/◌, ◌^◌, ◌%◌, take, [], ◌∷◌, nat_lt, nat_le, length, ℕ, true, false, cond, Bool, List, Option, Some, None, Ok, Err}
 use Rattle.std.specs.Prelude.{◌==◌, not, ◌&&◌, ◌||◌, ℤ, pos, negsuc, ◌+ℤ◌, IfErr, IfSome, IsTrue}
 use Rattle.wasi_fs.specs.Calls.{may_do, may_link, may_add_name, may_rename}

@@ -8,7 +8,7 @@ use Rattle.wasi_p1_types.specs.CallResult.{CallResult, from_host}
 use Rattle.wasi_guest.specs.declared.errno.Errno.TheVariants as errnos
 use Rattle.wasi_p1_types.specs.declared.error.P1Error.TheVariants.{Errno, Memory}
 
--- the specification's answer; or memory was wanted; or the host failed, where its count rose
+-- the specification's answer; or memory ran out; or the host failed, where its count rose
 abbrev pub GivesOrElse : {A : Type 0} → Type 0 → CallResult A → CallResult A → Type 0
 GivesOrElse rose result call_spec = (result ≡ call_spec) ⊎ ((result ≡ Err Memory) ⊎ ((result ≡ Err (Errno errnos.Io)) × rose))
 

@@ -40,7 +40,7 @@ open_node_of held descriptor = record { node = (held (handle_of descriptor)).nod
 abbrev pub open_directory_of : (ℕ → OpenHandle) → Dir → OpenNode
 open_directory_of held dir = record { node = (held dir.dir).node; perms = dir.perms }
 
--- A part that asks for something, which may not be permitted: then it is refused so, or memory was wanted first, and
+-- A part that asks for something, which may not be permitted: then it is refused so, or memory ran out first, and
 -- the host is as it was
 abbrev pub Refused : {A H : Type 0} → Option ErrorCode → CallResult A → H → H → Type 0
 Refused None result old new = Unit {0}
@@ -103,7 +103,7 @@ OfWriteTarget P (sinks.File file) = P file
 abbrev pub Follows : {A : Type 0} → (r : Request) → (Reply r → CallResult A) → CallResult A → Type 0
 Follows r next result = (reply : Reply r) × MayReply r reply × (next reply ≡ result)
 
--- a host's refusal, or want of memory
+-- a host's refusal, or out of memory
 abbrev pub IsFromHost : P1Error → Type 0
 IsFromHost e = (error : HostError) × (e ≡ error_of error)
 
@@ -112,7 +112,7 @@ abbrev pub IsReplied : {A : Type 0} → (r : Request) → (Reply r → CallResul
 IsReplied r next (Ok x) = Follows r next (Ok x)
 IsReplied r next (Err e) = IsFromHost e ⊎ Follows r next (Err e)
 
--- another refusal than want of memory
+-- another refusal than out of memory
 abbrev pub WantsNoMemory : P1Error → Type 0
 WantsNoMemory e = e ≡ Memory → ⊥
 

@@ -36,7 +36,7 @@ errno_of codes.NotPermitted = errnos.Perm
 errno_of codes.Pipe = errnos.Pipe
 errno_of codes.InvalidSeek = errnos.Spipe
 
--- a host's refusal: its code as an error number, or want of memory
+-- a host's refusal: its code as an error number, or out of memory
 abbrev pub error_of : HostError → P1Error
 error_of hosts.Memory = Memory
 error_of (hosts.Code code) = ByNumber (errno_of code)

@@ -21,7 +21,7 @@ last_where p (x ∷ xs) = later_or_here (p x) (last_where p xs)
 unfoldable pub free_number : {A : Type 0} → (A → Bool) → List A → ℕ
 free_number closed xs = unwrap_or (last_where closed xs) (length xs)
 
--- an item in the place of another, or behind all
+-- an item in place of another, or after all
 abbrev pub put_at : {A : Type 0} → Option ℕ → A → List A → List A
 put_at (Some n) x xs = slice_set xs n x
 put_at None x xs = xs ++ x ∷ []

@@ -205,7 +205,7 @@ events moment (w ∷ ws) sizes =
     then event_of w (first_size sizes) ∷ events moment ws (drop (length (nodes_in w.what)) sizes)
     else events moment ws (drop (length (nodes_in w.what)) sizes)
 
--- they stand in memory from an address on, one behind the other
+-- they stand in memory from an address on, one after the other
 unfoldable pub with_events : List ℕ → ℕ → List Event → List ℕ
 with_events memory at [] = memory
 with_events memory at (e ∷ es) = with_events (with_bytes memory at (event_bytes e)) (at + 32) es
@@ -225,7 +225,7 @@ abbrev pub OfReading : (ℕ → Type 0) → Awaited → Type 0
 OfReading P (awaiteds.FileToRead file position) = P file
 OfReading P what = Unit {0}
 
--- how many name a file, and when the first of them comes, of these behind others
+-- how many name a file, and when the first of them comes, of these after others
 abbrev pub judged_with : Judged → List Waited → Judged
 judged_with before ws =
     record { files = before.files + files_named ws; earliest = min before.earliest (earliest ws) }

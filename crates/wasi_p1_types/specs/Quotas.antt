@@ -51,7 +51,7 @@ with_quota quota s = record s { quota = quota; used = nothing_used }
 
 -- ---- growth
 
--- The number of bytes by which a file's end after a write or a new size passes its size before it, or 0: a piece behind
+-- The number of bytes by which a file's end after a write or a new size passes its size before it, or 0: a piece after
 -- its last byte is that much, and an end at a place of the file what that is past the size
 abbrev pub growth_to : ℕ → FileEnd → ℕ
 growth_to size (Behind more) = more

@@ -24,7 +24,7 @@ pub data Request : Type 0 where
   Path : PathRequest → Request
   -- one call of the host, on what a descriptor stands for
   Direct : HostCall → Request
-  -- a piece is put behind a file's last byte, and then the file is looked at
+  -- a piece is put after a file's last byte, and then the file is looked at
   Behind : OpenHandle → List ℕ → Request
   -- a directory is listed, with the number of each node: the directory's node
   ListDirectory : ℕ → Request

@@ -24,7 +24,7 @@ use Rattle.wasi_p1_types.specs.declared.error.P1Error.TheVariants.{Errno, Trap, 
 
 -- ---- texts
 
--- how many bytes they have with a zero behind each
+-- how many bytes they have with a zero after each
 unfoldable pub total_of : List (List ℕ) → ℕ
 total_of texts = sum_by (λ text. length text + 1) texts
 
@@ -42,7 +42,7 @@ sizes_of texts = do
 abbrev pub aligned : ℕ → CallResult ℕ
 aligned at = if at % 4 == 0 then Ok at else Err (Trap Pointer)
 
--- the address of a text at one place, and at that address the text with a zero behind it
+-- the address of a text at one place, and at that address the text with a zero after it
 abbrev pub with_text : List ℕ → List ℕ → ℕ → ℕ → List ℕ
 with_text memory text at buf = with_bytes (with_bytes memory at (to_le_bytes w32 buf)) buf (text ++ 0 ∷ [])
 
@@ -114,7 +114,7 @@ input_into memory stock buffer =
       (with_bytes memory buffer.buf bytes, record stock { stdin = drop (length bytes) stock.stdin }),
     ))
 
--- a piece behind what was written to an output
+-- a piece after what was written to an output
 abbrev pub written : GuestEnvModel → Output → List ℕ → GuestEnvModel
 written stock outputs.Stdout piece = record stock { stdout = stock.stdout ++ piece }
 written stock outputs.Stderr piece = record stock { stderr = stock.stderr ++ piece }

@@ -20,7 +20,7 @@ pub enum P1Error {
     Trap(TrapKind),
     /// The guest ended with this status.
     Exit(u32),
-    /// Memory was wanted. All stands as before the call.
+    /// Memory ran out. All stands as before the call.
     Memory,
 }
 
@@ -29,14 +29,14 @@ pub enum P1Error {
 pub enum CtxError {
     /// The resource table is to have fewer entries than the three standard streams and the directories are.
     Full,
-    /// Memory was wanted.
+    /// Memory ran out.
     Memory,
 }
 
 /// Why a run wasn't finished.
 #[derive(Clone, Copy, Debug, PartialEq, Eq)]
 pub enum RunError {
-    /// Memory was wanted, for the answers or by the call behind the first `answered`. All stands as after these.
+    /// Memory ran out, for the answers or by the call after the first `answered`. All stands as after these.
     Memory { answered: usize },
 }
 

@@ -1,4 +1,4 @@
-//! The record that tells of a descriptor.
+//! The record `fdstat`: the type, flags and rights of a descriptor.
 ghost use Rattle.std.specs.Prelude.{◌≡◌};
 ghost use Rattle.wasi_guest.specs.FiletypeNumber.{filetype_number};
 ghost use Rattle.wasi_p1_types.specs.Fdstats.{directory_fdstat, file_rights, modes_bits, preopen_fdstat, stream_fdstat};
@@ -8,7 +8,7 @@ use bitflags::Flags;
 use wasi_fs::OpenMode;
 use wasi_guest::{FdFlags, Fdstat, Filetype, Rights};
 
-/// Those of a directory that the guest was given: of the calls on directories and at paths, FD_READDIR, FD_FILESTAT_GET
+/// Those of a preopen: of the calls on directories and at paths, FD_READDIR, FD_FILESTAT_GET
 /// and FD_FILESTAT_SET_TIMES among them, but for PATH_FILESTAT_SET_SIZE.
 const PREOPEN_RIGHTS: u64 = 129_498_624;
 
@@ -24,7 +24,7 @@ const ALL_RIGHTS: u64 = 1_073_741_823;
 /// FD_READ and FD_READDIR.
 const READING_RIGHTS: u64 = 16_386;
 
-/// What is told of a descriptor of this type, without flags.
+/// The `fdstat` of a descriptor of this type, without flags.
 fn fdstat(filetype: Filetype, base: u64, inheriting: u64) -> Fdstat
     ensures value { result ≡ record { filetype = filetype_number filetype; flags = 0; base = base; inheriting = inheriting } }
 {
@@ -36,7 +36,7 @@ fn fdstat(filetype: Filetype, base: u64, inheriting: u64) -> Fdstat
     }
 }
 
-/// What is told of a standard stream: it can be read, or written.
+/// The `fdstat` of a standard stream: it can be read, or written.
 pub fn stream_fdstat(stream: Stream) -> Fdstat
     ensures { result ≡ stream_fdstat stream }
 {
@@ -47,14 +47,14 @@ pub fn stream_fdstat(stream: Stream) -> Fdstat
     fdstat(Filetype::Unknown, rights, rights)
 }
 
-/// What is told of a directory that the guest was given.
+/// The `fdstat` of a preopen.
 pub fn preopen_fdstat() -> Fdstat
     ensures { result ≡ preopen_fdstat }
 {
     fdstat(Filetype::Directory, PREOPEN_RIGHTS, PREOPEN_INHERITING)
 }
 
-/// What is told of another directory.
+/// The `fdstat` of another directory.
 pub fn directory_fdstat() -> Fdstat
     ensures { result ≡ directory_fdstat }
 {
@@ -78,8 +78,8 @@ fn modes_bits(modes: FileModes) -> u16
     append + nonblock
 }
 
-/// The rights of a file's descriptor, as bits of `Rights`: all but those to read where it wasn't opened for reading, and
-/// those to write where it wasn't for writing.
+/// The rights of a file's descriptor, as bits of `Rights`: all but those to read where it wasn't opened for reading,
+/// and those to write where it wasn't for writing.
 fn file_rights(mode: OpenMode) -> u64
     ensures { result ≡ file_rights mode }
 {
@@ -96,7 +96,7 @@ fn file_rights(mode: OpenMode) -> u64
     ALL_RIGHTS - unread - unwritten
 }
 
-/// What is told of a file of this type, that was opened and is used so.
+/// The `fdstat` of a file of this type, that was opened and is used so.
 pub fn file_fdstat(mode: OpenMode, modes: FileModes, filetype: Filetype) -> Fdstat
     ensures { result ≡ record {
       filetype = filetype_number filetype;

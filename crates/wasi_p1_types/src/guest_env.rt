@@ -1,4 +1,4 @@
-//! What a guest has beside its descriptors and its memory.
+//! The environment of a guest: what it has besides its descriptors and its memory.
 ghost use Rattle.std.specs.Prelude.{◌≡◌, ◌+◌, ◌-◌, ◌^◌, ◌≤◌, ◌<◌, ◌*◌, ◌%◌, ◌==◌, ◌&&◌, slice_index_or, slice_get, option_map, min, false, IsTrue, IfSome, Ok, IfOk, IfErr, OnOk, OnErr, map, length};
 ghost use Rattle.wasi_p1_types.specs.CallParts.{WantsNoMemory, with_after, is_failure};
 ghost use Rattle.std.specs.List.{range_with_len};
@@ -27,10 +27,10 @@ use wasi_guest::{
     Value, WallDatetime, write_bytes,
 };
 
-/// What a guest was handed in, as far as that is left, and what it has written to the two outputs.
+/// What a guest has left of its environment, and what it has written to the two outputs.
 #[derive(Debug, Drop)]
 pub struct GuestEnv {
-    /// The directories that the guest was given, for their names.
+    /// The preopens, for their names.
     preopens: Vec<P1Preopen>,
     args: Vec<String>,
     environ: Vec<String>,
@@ -118,7 +118,7 @@ fn env_texts(alloc: Global, env: &[EnvPair]) -> Result<Vec<String>, AllocError>
 }
 
 impl GuestEnv {
-    /// What is handed in, whole, the names of the directories that are given, and nothing written. The texts of the
+    /// The whole environment, the names of the preopens, and nothing written. The texts of the
     /// environment take memory, and nothing else does.
     pub fn new(
         alloc: Global,
@@ -148,14 +148,14 @@ impl GuestEnv {
         })
     }
 
-    /// The name of the directory that was given at this place, if there was one.
+    /// The name of the preopen at this place, if there is one.
     pub fn preopen_name(&self, place: usize) -> Option<&str>
         ensures name { option_map (λ name. name.now) result ≡ slice_get self.now.preopens place }
     {
         Some(self.preopens.get(place)?.name.as_str())
     }
 
-    /// How many arguments there are, and how many bytes they have with a zero behind each: Overflow where 32 bits don't
+    /// How many arguments there are, and how many bytes they have with a zero after each: Overflow where 32 bits don't
     /// hold one of the two.
     pub fn args_sizes(&self) -> Result<Value, P1Error>
         ensures specified { result ≡ sizes_of self.now.args }
@@ -186,7 +186,7 @@ impl GuestEnv {
         self.stderr.as_slice()
     }
 
-    /// What was written to the two outputs, without a copy of it. All else is let go.
+    /// What was written to the two outputs, without a copy of it. All else is dropped.
     pub fn into_outputs(self) -> Outputs
         ensures stdout { result.stdout.items ≡ self.stdout }
         ensures stderr { result.stderr.items ≡ self.stderr }
@@ -237,8 +237,8 @@ fn may_be_done<T>(outcome: &Result<T, P1Error>) -> bool
 }
 
 impl GuestEnv {
-    /// Sets how much the guest may make and grow from now on, and both counts to 0. Each bound is at most 2^62. It takes
-    /// no memory.
+    /// Sets how much the guest may make and grow from now on, and both counts to 0. Each bound is at most 2^62. It
+    /// takes no memory.
     pub fn set_quota(&mut self, quota: Quota)
         requires quota { IsQuota quota }
         ensures set { self.new ≡ with_quota quota self.old }
@@ -443,7 +443,7 @@ impl GuestEnv {
         Ok(n as u32)
     }
 
-    /// Puts a piece behind what was written to an output.
+    /// Puts a piece after what was written to an output.
     pub fn write(&mut self, output: Output, piece: &[u8]) -> Result<(), AllocError>
         ensures done { OnOk result (self.new ≡ written self.old output piece.now) }
         ensures kept { OnErr result (self.new ≡ self.old) }
@@ -456,7 +456,7 @@ impl GuestEnv {
 }
 
 impl GuestEnv {
-    /// Writes the arguments into memory from `buf` on, each with a zero behind it, and their addresses from `at` on, in
+    /// Writes the arguments into memory from `buf` on, each with a zero after it, and their addresses from `at` on, in
     /// four little-endian bytes each. Where there are any: trap Pointer where `at` is no multiple of 4, or one of the
     /// two ranges leaves the memory. Nothing is written then.
     pub fn args_into(&self, memory: &mut [u8], at: u32, buf: u32) -> Result<(), P1Error>
@@ -468,7 +468,7 @@ impl GuestEnv {
         texts_into(memory, &self.args, at, buf)
     }
 
-    /// The same of the variables of the environment, each a text with `=` behind its key.
+    /// The same of the variables of the environment, each a text with `=` after its key.
     pub fn environ_into(&self, memory: &mut [u8], at: u32, buf: u32) -> Result<(), P1Error>
         ensures size { length memory.new ≡ length memory.old }
         ensures same { OnErr result (memory.new ≡ memory.old) }
@@ -506,7 +506,7 @@ impl GuestEnv {
     }
 }
 
-/// Fills a buffer with bytes that are given round and round, from a place on, and gives the place behind them.
+/// Fills a buffer with bytes that are given round and round, from a place on, and gives the place after them.
 fn fill_cycled(part: &mut [u8], bytes: &[u8], at: usize) -> usize
     requires within { at < length bytes.now }
     ensures filled { part.new ≡ map (λ i. slice_index_or bytes.now ((at + i) % length bytes.now) 0)
@@ -521,7 +521,7 @@ fn fill_cycled(part: &mut [u8], bytes: &[u8], at: usize) -> usize
     place
 }
 
-/// The place behind one among so many, behind the last of which the first comes again.
+/// The place after one among so many, after the last of which the first comes again.
 fn place_after(place: usize, count: usize) -> usize
     requires within { place < count }
     ensures { result ≡ (place + 1) % count }
@@ -529,7 +529,7 @@ fn place_after(place: usize, count: usize) -> usize
     if place + 1 == count { 0 } else { place + 1 }
 }
 
-/// Writes texts into memory, each with a zero behind it, and their addresses. Where there are any: trap Pointer where
+/// Writes texts into memory, each with a zero after it, and their addresses. Where there are any: trap Pointer where
 /// there is no room for them.
 #[tactic(auto, unfolding(crate::specs::Services::texts_at))]
 fn texts_into(memory: &mut [u8], texts: &[String], at: u32, buf: u32) -> Result<(), P1Error>
@@ -560,7 +560,7 @@ fn has_room(memory: &[u8], texts: &[String], at: u32, buf: u32) -> bool
     at % 4 == 0 && at as u64 + list <= size && total.saturating_add(buf as u64) <= size
 }
 
-/// Writes texts from one address on, each with a zero behind it, and their addresses from another on.
+/// Writes texts from one address on, each with a zero after it, and their addresses from another on.
 fn put_texts(memory: &mut [u8], texts: &[String], at: usize, buf: usize)
     requires list { IsInMemory memory.old at (4 * length texts.now) }
     requires bytes { IsInMemory memory.old buf (total_of (map string_bytes texts.now)) }
@@ -575,7 +575,7 @@ fn put_texts(memory: &mut [u8], texts: &[String], at: usize, buf: usize)
     }
 }
 
-/// Writes a text to an address, with a zero behind it, and that address to a place. Gives the address behind it all.
+/// Writes a text to an address, with a zero after it, and that address to a place. Gives the address after it all.
 #[tactic(auto, using(crate::proofs::Texts::with_both, wasi_guest::proofs::Ranges::with_bytes_length))]
 fn put_text(memory: &mut [u8], text: &str, place: usize, address: usize) -> usize
     requires list { IsInMemory memory.old place 4 }
@@ -626,7 +626,7 @@ fn moment_of(wall: WallDatetime, monotonic: u64, clock: Clockid) -> Result<u64, 
     }
 }
 
-/// How many bytes texts have with a zero behind each, or 2^64 - 1 where there are more.
+/// How many bytes texts have with a zero after each, or 2^64 - 1 where there are more.
 fn total_of(texts: &[String]) -> u64
     ensures { result ≡ min (total_of (map string_bytes texts.now)) (2 ^ 64 - 1) }
 {

@@ -80,7 +80,7 @@ fn put_entry(table: &mut ResourceTable, entry: Entry) -> Resource
     resource
 }
 
-/// Puts what a descriptor stands for into the table, which has room for it.
+/// Puts what a descriptor refers to into the table, which has room for it.
 pub fn admit(table: &mut ResourceTable, slot: Slot) -> Item
     requires in_use { is_closed_slot slot ≡ false }
     requires spare { 0 < table.old.spare }
@@ -112,7 +112,7 @@ pub fn admit(table: &mut ResourceTable, slot: Slot) -> Item
     }
 }
 
-/// What a directory's resource stands for.
+/// What a directory's resource refers to.
 fn directory_of(table: &ResourceTable, resource: Resource, preopen: Option<usize>) -> Slot
     requires { IsOfKind table.now.entries (Item.Directory resource preopen) }
     ensures { result ≡ slot_in table.now.entries (Item.Directory resource preopen) }
@@ -129,7 +129,7 @@ fn directory_of(table: &ResourceTable, resource: Resource, preopen: Option<usize
     }
 }
 
-/// What a file's resource stands for, at a position, with its modes.
+/// What a file's resource refers to, at a position, with its modes.
 fn file_of(table: &ResourceTable, resource: Resource, position: u64, modes: FileModes) -> Slot
     requires { IsOfKind table.now.entries (Item.File resource position modes) }
     ensures { result ≡ slot_in table.now.entries (Item.File resource position modes) }
@@ -147,7 +147,7 @@ fn file_of(table: &ResourceTable, resource: Resource, position: u64, modes: File
     }
 }
 
-/// What a descriptor stands for.
+/// What a descriptor refers to.
 pub fn slot_of_item(table: &ResourceTable, item: Item) -> Slot
     requires { IsOfKind table.now.entries item }
     ensures { result ≡ slot_in table.now.entries item }

@@ -1,6 +1,6 @@
-//! The values of `wasi_snapshot_preview1`: a guest's state as specifications see it, what stands under a descriptor's number, what
-//! a call may ask of the host and may be answered, error numbers, flags and times; and the small code on them that touches no
-//! host. The specification of the calls, in `wasi_p1_model`, speaks of these.
+//! The values of `wasi_snapshot_preview1`: a guest's state as specifications see it, what a descriptor number refers
+//! to, what a call may ask of the host and may be answered, error numbers, flags and times; and the small code on them
+//! that touches no host. The specification of the calls, in `wasi_p1_model`, speaks of these.
 #![tactic(auto)]
 
 mod awaited;

@@ -1,4 +1,4 @@
-//! What is told of a node.
+//! The metadata of a node.
 ghost use Rattle.std.specs.Prelude.{◌≡◌};
 ghost use Rattle.wasi_p1_types.specs.Filestats.{filetype_of, stream_filestat};
 

@@ -21,7 +21,7 @@ pub struct Allowance {
 /// Where a file ends after a write or a new size.
 #[derive(Clone, Copy, Debug, PartialEq, Eq)]
 pub enum FileEnd {
-    /// So many bytes behind its last one.
+    /// So many bytes after its last one.
     Behind(u64),
     /// At this place, if it isn't longer already. It may be past 64 bits, as an offset and a piece's length may be.
     At(u128),

@@ -1,4 +1,4 @@
-//! What a descriptor number stands for.
+//! What a descriptor number refers to.
 ghost use Rattle.std.specs.Prelude.{◌≡◌};
 ghost use Rattle.wasi_p1_types.specs.Slots.{preopen_directory};
 
@@ -14,7 +14,7 @@ pub enum Stream {
     Error,
 }
 
-/// How a file's descriptor is used, by preview1's `fdflags`: whether all that it writes goes behind the file's last
+/// How a file's descriptor is used, by preview1's `fdflags`: whether all that it writes goes after the file's last
 /// byte, and whether its calls wait. No call waits here, so the latter is only kept.
 #[derive(Clone, Copy, Debug, PartialEq, Eq)]
 pub struct FileModes {
@@ -22,7 +22,7 @@ pub struct FileModes {
     pub nonblock: bool,
 }
 
-/// A directory's descriptor, and its place among those that the guest was given, if it is one of them.
+/// A directory's descriptor, and its place among the preopens, if it is one.
 #[derive(Drop)]
 pub struct DirectorySlot {
     pub dir: Dir,
@@ -37,7 +37,7 @@ pub struct FileSlot {
     pub modes: FileModes,
 }
 
-/// What a descriptor number stands for, as the crate's `Descriptor` of `preview1.rs`.
+/// What a descriptor number refers to: the crate's `Descriptor` of `p1.rs`.
 #[derive(Drop)]
 pub enum Slot {
     Closed,

@@ -37,7 +37,7 @@ closed_one {H} {host} {ctx} {h} {table} {now} {n} {e} owned taken closes = recor
   rests = closes.modelled;
 }
 
--- an entry in the place of one with the same handle, or with none as it
+-- an entry in place of one with the same handle, or with none as it
 pub owned_put : {live : Handles} {preopens : List Preopen} {table : Entries} (n : ℕ) (e : Entry)
     → entry_handle (get table n) ≡ entry_handle (Some e) → AreOwned live preopens table
     → AreOwned live preopens (insert table n e)

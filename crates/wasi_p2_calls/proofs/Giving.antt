@@ -76,7 +76,7 @@ owned_each modelled w live table (p ∷ ps) (m ∷ ms) live' table' all gives ow
     owned_each modelled w (with_handle live gives.0) (insert table m.fd.number (preopen_entry p gives.0)) ps ms live' table' all
     gives.5 (owned_added m.fd.number (preopen_entry p gives.0) owned (gives.1, refl))
 
--- ---- look-ups
+-- ---- lookups
 
 or_got_known : (A : ℕ → Type 0) (o : Option ℕ) (rest : List Lookup) (h : ℕ) → OrGot A o h
     → A h ⊎ OrGotIn (OrGot Nothing o) rest h

@@ -23,7 +23,7 @@ pub has_lives : {live : Handles} {preopens : List Preopen} {table : Entries} (n 
     → HasIt table n h → contains live h ≡ true
 has_lives n h owned has = owned.lives (tabled n) h has
 
--- look-ups that begin from what a number stands for
+-- lookups that begin from what a number stands for
 pub traced_from : {h : ℕ} {Kept Kept' : ℕ → Type 0} {old new : List Lookup} (table : Entries) (n : ℕ) → HasIt table n h
     → HasProvenance (Only h) Kept Kept' old new → HasProvenance (HasIt table n) Kept Kept' old new
 traced_from table n has traced =

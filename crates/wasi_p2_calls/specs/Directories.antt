@@ -37,7 +37,7 @@ IsOfThese (p ∷ preopens) q = (q ≡ p.dir.dir) ⊎ IsOfThese preopens q
 abbrev pub IsNewlyLive : Handles → Handles → ℕ → Type 0
 IsNewlyLive live live' h = (contains live h ≡ false) × (contains live' h ≡ true)
 
--- Not all were given: there may not be so many entries; or memory was wanted; or the host refused a `dup` with the code
+-- Not all were given: there may not be so many entries; or memory ran out; or the host refused a `dup` with the code
 -- that is named, which is `Io`, where it is told
 abbrev pub WhyNotAll : Bool → Table → ℕ → FsError → Type 0
 WhyNotAll modelled table more e = ((e ≡ Trap Full) × (table.max < len table.entries + more))
@@ -66,7 +66,7 @@ EachOrNone modelled w live table preopens (Err e) live' table' =
     (live' ≡ live) × (table'.entries ≡ table.entries) × (table.spare ≤ table'.spare)
     × WhyNotAll modelled table (length preopens) e
 
--- What is done to the host and the table, of these preopens: look-ups begin from their handles, and got each handle
+-- What is done to the host and the table, of these preopens: lookups begin from their handles, and got each handle
 -- that is newly live
 pub record GivesThese {H : Type 0} (host : Ghosts H) (old new : H) (table now : Table) (preopens : List Preopen)
     (result : Result (List PreopenEntry) FsError) : Type 0 where

@@ -52,7 +52,7 @@ KeepsRoom table (Ok made) table' = (table'.max ≡ table.max) × (table.spare �
 KeepsRoom table (Err e) table' = (table'.max ≡ table.max) × (table.spare ≤ table'.spare)
 
 -- Room for so many entries is made sure of before anything is done: where there may not be so many the call is refused
--- as a trap, and for want of memory where they weren't sure of room
+-- as a trap, and for out of memory where they weren't sure of room
 pub record HasRoom {B : Type 0} (table : Table) (more : ℕ) (same Did : Type 0) (result : Result B FsError) : Type 0 where
   pub full : table.max < len table.entries + more → (result ≡ Err (Trap Full)) × same
   pub fits : len table.entries + more ≤ table.max
@@ -115,7 +115,7 @@ abbrev pub act_of : FileOutputMode → Act
 act_of (Position offset) = acts.Alter
 act_of Append = acts.Append
 
--- a stream into a file, from an offset on or behind its last byte
+-- a stream into a file, from an offset on or after its last byte
 abbrev pub StreamsTo : {H : Type 0} → Ghosts H → Files H → Files H → ℕ → FileOutputMode → Result Resource FsError → Type 0
 StreamsTo host old new fd mode result = MakesEntry host old new fd (writable_at (act_of mode) old.table.entries fd) Output
     (λ file answer. IfOk answer (λ s. (s.mode ≡ mode) × (s.state ≡ Ready))

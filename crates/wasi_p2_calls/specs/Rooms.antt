@@ -15,7 +15,7 @@ pub record KeepsTable (table now : Table) : Type 0 where
   pub max : now.max ≡ table.max
   pub grows : table.spare ≤ now.spare
 
--- there may not be so many entries more, or memory was wanted for them
+-- there may not be so many entries more, or memory ran out for them
 abbrev pub NoRoom : Table → ℕ → FsError → Type 0
 NoRoom table more e = ((e ≡ Trap Full) × (table.max < len table.entries + more))
     ⊎ ((e ≡ Memory) × (len table.entries + more ≤ table.max) × (table.spare < more))

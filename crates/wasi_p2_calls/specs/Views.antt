@@ -60,7 +60,7 @@ node_held host files h = ((host.model files.ctx.host).held h).node
 abbrev pub tree_in : {H : Type 0} → Ghosts H → Files H → Tree
 tree_in host files = (host.model files.ctx.host).tree
 
--- A call of what is found, which asks the host: nothing but the host changes; its look-ups come so; and it is the lower
+-- A call of what is found, which asks the host: nothing but the host changes; its lookups come so; and it is the lower
 -- call of what is found
 pub record CallsOn {H X A B : Type 0} (host : Ghosts H) (old new : Files H) (Looks : List Lookup → List Lookup → Type 0)
     (found : Result X FsError) (shown : A → B) (Did : X → Result A HostError → Type 0) (result : Result B FsError)
@@ -69,7 +69,7 @@ pub record CallsOn {H X A B : Type 0} (host : Ghosts H) (old new : Files H) (Loo
   pub looks : Looks (host.lookups old.ctx.host) (host.lookups new.ctx.host)
   pub did : Passes found (new.ctx.host ≡ old.ctx.host) shown Did result
 
--- look-ups that begin from the handle of a number's entry, or of one of two, and keep none
+-- lookups that begin from the handle of a number's entry, or of one of two, and keep none
 abbrev pub LooksFrom : Entries → ℕ → List Lookup → List Lookup → Type 0
 LooksFrom table fd = HasProvenance (HasIt table fd) Nothing Nothing
 

@@ -1,4 +1,4 @@
-//! Preview2's calls on a guest's files: each is a call of what its resource stands for.
+//! Preview2's calls on a guest's files: each is a call of what its resource refers to.
 #![tactic(auto)]
 
 mod calls;

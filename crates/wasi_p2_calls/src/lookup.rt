@@ -1,4 +1,4 @@
-//! What a resource stands for: copies, which name the same handles, since a call changes its table beside them.
+//! What a resource refers to: copies, which name the same handles, since a call changes its table beside them.
 ghost use Rattle.std.specs.Prelude.{◌≡◌, IfOk};
 ghost use Rattle.wasi_fs.specs.Calls.{handle_of};
 ghost use Rattle.wasi_p2_types.specs.FsErrors.{raised};

@@ -1,4 +1,4 @@
-//! The directories that a guest was given, as entries of its table.
+//! The preopens of a guest, as entries of its table.
 ghost use Rattle.std.specs.Prelude.{◌≡◌, ◌≤◌, ◌+◌, ◌++◌, ℕ, true, List, length, OnOk, IsSome, IfSome};
 ghost use Rattle.std.specs.FinMap.{get};
 ghost use Rattle.std.specs.FinSet.{contains};
@@ -13,7 +13,7 @@ use wasi_fs::{Descriptor, Dir};
 use wasi_host::{Handle, Host};
 use wasi_streams::{Entry, Resource, ResourceTable};
 
-/// An entry of a directory that a guest was given, and the name by which the guest knows it: the pair that the crate's
+/// An entry of a preopen, and the name by which the guest knows it: the pair that the crate's
 /// `get_directories` answers.
 #[derive(Debug, Drop)]
 pub struct PreopenEntry {
@@ -57,7 +57,7 @@ fn take_back<H: Host>(host: &mut H, table: &mut ResourceTable, fd: Resource)
     close_entry(host, entry);
 }
 
-/// Gives each of these directories an entry, in order, behind those that were made. Where one can't be given, those
+/// Gives each of these directories an entry, in order, after those that were made. Where one can't be given, those
 /// before it are taken back.
 pub fn give_each<H: Host>(
     host: &mut H,

@@ -18,7 +18,7 @@ abbrev pub fs_error : HostError → FsError
 fs_error (hosts.Code code) = Code (code_named code)
 fs_error hosts.Memory = Memory
 
--- a refusal of the table: a trap, but for want of memory
+-- a refusal of the table: a trap, but for out of memory
 abbrev pub table_error : TableError → FsError
 table_error tables.Full = Trap tables.Full
 table_error tables.NotPresent = Trap tables.NotPresent

@@ -1,4 +1,4 @@
-//! What is said of a descriptor's node.
+//! The metadata of a descriptor's node.
 ghost use Rattle.std.specs.Prelude.{◌≡◌};
 ghost use Rattle.wasi_p2_types.specs.Stats.{type_named, kind_named, stat_named, hash_named, moment_kept};
 
@@ -42,7 +42,7 @@ impl From<wasi_host::FileType> for DescriptorType {
     }
 }
 
-/// What is said of a node: preview2's `descriptor-stat`. A time that isn't kept, or is before the epoch, is `None`.
+/// The metadata of a node: preview2's `descriptor-stat`. A time that isn't kept, or is before the epoch, is `None`.
 #[derive(Clone, Copy, Debug, PartialEq, Eq)]
 pub struct DescriptorStat {
     pub type_: DescriptorType,

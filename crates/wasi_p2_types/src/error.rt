@@ -9,7 +9,7 @@ use std::alloc::AllocError;
 use wasi_host::HostError;
 use wasi_streams::TableError;
 
-/// Why a call didn't succeed: the crate's `FsError`, a code or a trap, and besides want of memory.
+/// Why a call didn't succeed: the crate's `FsError`, a code or a trap, and or out of memory.
 #[derive(Clone, Copy, Debug, PartialEq, Eq)]
 pub enum FsError {
     /// The call is refused with this code.
@@ -17,7 +17,7 @@ pub enum FsError {
     /// The table refuses the call: a resource is missing or of another kind, or there would be too many. Of
     /// `TableError`'s values it never carries `Memory`.
     Trap(TableError),
-    /// Memory was wanted.
+    /// Memory ran out.
     Memory,
 }
 

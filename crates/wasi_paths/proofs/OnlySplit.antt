@@ -12,7 +12,7 @@ use Rattle.wasi_paths.proofs.Segments.{IsOne, last_of, first_of, tail_is_one}
 use Rattle.wasi_paths.proofs.ComponentLemmas.{alone}
 use Rattle.wasi_paths.proofs.Splitting.{kept_ends, kept_cons, one_end, components_joined, lead_behind, one_component, ends_at_end}
 
--- ---- a text that goes on behind a segment
+-- ---- a text that goes on after a segment
 
 record GoesOn (s rest : List ℕ) : Type 0 where
   more : List ℕ
@@ -60,7 +60,7 @@ nothing_mapped : (pieces : List (Component × ℕ)) → map alone pieces ≡ [] 
 nothing_mapped [] none = refl
 nothing_mapped (piece ∷ pieces) none = absurd (cc)
 
--- the segment s with the end it has, and the one that it becomes with those behind it
+-- the segment s with the end it has, and the one that it becomes with those after it
 all_ends : List ℕ → List ℕ → ℕ → List (Component × ℕ) → List (Component × ℕ)
 all_ends s more n tail = cond (is_kept (s ++ more)) ((component_of (s ++ more), n + length (s ++ more)) ∷ tail) tail
 
@@ -81,7 +81,7 @@ same_kept s more n tail same = by (is_kept s) refl same
         rw (kept, none) (ap (λ t. (component_of t, n + length t) ∷ []) whole)
     by false is same = sym (nothing_mapped (all_ends s more n tail) (sym same))
 
--- a text that goes on behind a segment with the same components has them at the same places
+-- a text that goes on after a segment with the same components has them at the same places
 same_behind : (n : ℕ) (s rest : List ℕ) → IsOne s
     → map alone (kept_ends (with_ends n (segments s))) ≡ map alone (kept_ends (with_ends n (segments (s ++ rest))))
     → kept_ends (with_ends n (segments s)) ≡ kept_ends (with_ends n (segments (s ++ rest)))
@@ -197,7 +197,7 @@ same_front text rest same bare bare' =
     let none : length rest ≡ 0 = omega (arith, length-append text rest) in
     sym (append-nil text) ∙ ap (λ r. text ++ r) (sym (nil_from_length rest none))
 
--- of two fronts of a text, the longer one goes on behind the shorter one
+-- of two fronts of a text, the longer one goes on after the shorter one
 longer_front : (front front' rest rest' : List ℕ) → front ++ rest ≡ front' ++ rest' → length front ≤ length front'
     → front ++ drop (length front) front' ≡ front'
 longer_front front front' rest rest' same long =

@@ -1,4 +1,4 @@
--- What searching a text for slashes gives: a cut behind the last one, and the segments that are kept, from either end.
+-- What searching a text for slashes gives: a cut after the last one, and the segments that are kept, from either end.
 use Rattle.std.proofs.Common.{ℕ, ◌+◌, ◌≡◌, ◌<◌, Bool, true, false, List, [], ◌∷◌, ◌++◌, refl, ap, sym, ◌∙◌, subst, cond, inl, inr, length, take, drop, get_or, arith, lit<, Bor, ne_eqb}
 use Rattle.std.specs.Prelude.{nat_eq, Option, Some, None, MatchOption, IfSome}
 use Rattle.std.specs.Fn.{CalledAt}

@@ -38,7 +38,7 @@ pub record IsOne (text : List ℕ) : Type 0 where
 pub empty_is_one : IsOne []
 empty_is_one = record { one = refl }
 
--- a text is what stands before its last slash, and what stands behind it
+-- a text is what stands before its last slash, and what stands after it
 pub record HasLast (text : List ℕ) : Type 0 where
   pub front : List ℕ
   pub last : List ℕ

@@ -114,7 +114,7 @@ first_joined front rest = ap first_segment (segments_joined front rest) ∙ by (
     by : (pieces : List (List ℕ)) → HasFirst pieces → first_segment (pieces ++ segments rest) ≡ first_segment pieces
     by pieces k = rw k.is refl
 
--- it isn't changed by what stands behind a slash
+-- it isn't changed by what stands after a slash
 pub lead_behind : (front text other : List ℕ) → lead (front ++ 47 ∷ text) ≡ lead (front ++ 47 ∷ other)
 unfolding has_root
 lead_behind front text other =
@@ -282,7 +282,7 @@ pub in_name : {text : List ℕ} {empty requires dot : Bool} → empty ≡ nat_eq
 in_name {text} empty some requires free dot named =
     record { some = sym (empty_by_length text) ∙ sym empty ∙ some; free = sym requires ∙ free; named = sym dot ∙ named }
 
--- what stands behind its last slash is then a component
+-- what stands after its last slash is then a component
 pub record IsLastOf (text front last : List ℕ) : Type 0 where
   pub kept : is_kept last ≡ true
   pub ends : components_with_ends text ≡ components_with_ends front ++ (component_of last, length text) ∷ []

@@ -1,4 +1,4 @@
--- The end of a text, by what stands behind its last slash, and by its last bytes.
+-- The end of a text, by what stands after its last slash, and by its last bytes.
 use Rattle.std.proofs.Common.{ℕ, ◌-◌, ◌≡◌, ◌<◌, Bool, true, false, List, [], ◌∷◌, ◌++◌, refl, ap, sym, ◌∙◌, subst, cond, eqb-true, inl, inr, length, length-append, take, drop, lit<, slice_index, arith, zero, suc}
 use Rattle.std.specs.Prelude.{nat_eq, not, ◌&&◌, ◌||◌, codes, Option, Some, None, IfSome}
 use Rattle.std.specs.Bool.{Decides}
@@ -18,7 +18,7 @@ use Rattle.wasi_paths.specs.Parts.{is_slash, is_empty, is_kept, segments, last_s
 use Rattle.wasi_paths.specs.TextLaws.{EndsByBytes}
 use Rattle.wasi_paths.proofs.Segments.{HasFirst, first_of, segments_joined, IsOne, empty_is_one, HasLast, last_of, segments_of_last, tail_is_one, last_segment_push, are_several_push, filled, nothing_of}
 
--- ---- by what stands behind the last slash
+-- ---- by what stands after the last slash
 
 pub one_slash : {text : List ℕ} → IsOne text → trailing_slash text ≡ false
 unfolding trailing_slash
@@ -92,7 +92,7 @@ ends_decides text end =
     let h = ends_is Decides-eqb text end (ends_with nat_eq text end) refl in
     ((λ is. (_, h.0 is)), λ e. h.1 e.0 e.1)
 
--- a text without a slash doesn't end in one with anything behind it
+-- a text without a slash doesn't end in one with anything after it
 one_ends : {text : List ℕ} (end : List ℕ) → IsOne text → ends_with nat_eq text (47 ∷ end) ≡ false
 unfolding EndsIn
 one_ends {text} end k = elim (cases_Bool (ends_with nat_eq text (47 ∷ end))) [
@@ -115,7 +115,7 @@ one_ends {text} end k = elim (cases_Bool (ends_with nat_eq text (47 ∷ end))) [
         two (segments e.0) (segments end) (first_of e.0) (first_of end)
         (sym (segments_joined e.0 end) ∙ ap segments (sym e.1) ∙ k.one)
 
--- with a slash, it ends in what stands behind the last one
+-- with a slash, it ends in what stands after the last one
 last_ends : {text : List ℕ} (k : HasLast text) (end : List ℕ) → IsOne end
     → ends_with nat_eq text (47 ∷ end) ≡ bytes_eq k.last end
 unfolding EndsIn

@@ -30,7 +30,7 @@ IsLastPart (Normal name) = IsTrue (is_plain name)
 IsLastPart CurDir = ⊤
 IsLastPart part = ⊥
 
--- the front of a text that has all components of the text but the last one, and nothing behind them
+-- the front of a text that has all components of the text but the last one, and nothing after them
 pub record IsBefore (text front : List ℕ) (last : Component) : Type 0 where
   pub rest : List ℕ
   pub joined : text ≡ front ++ rest

@@ -19,7 +19,7 @@ pub fn path_has_trailing_slash(path: &str) -> bool
     path.ends_with("/")
 }
 
-/// Whether the text ends in a segment `.`, with any number of slashes behind it.
+/// Whether the text ends in a segment `.`, with any number of slashes after it.
 pub fn path_has_trailing_dot(path: &str) -> bool
     ensures test { result ≡ trailing_dot path.now }
 {

@@ -19,7 +19,7 @@ pub fn names_are_plain()
 {}
 
 /// A text has exactly one split, but the empty text has none: the whole text and `.` where it requires a directory or
-/// ends in `..`, and else the front that has all components but the last one and nothing behind them, and that one.
+/// ends in `..`, and else the front that has all components but the last one and nothing after them, and that one.
 pub fn texts_have_one_split()
     ensures split { (text : List ℕ) → HasOneSplit text }
 {}

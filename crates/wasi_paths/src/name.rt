@@ -1,4 +1,4 @@
-//! Names.
+//! The names of directory entries, as hosts look them up.
 ghost use Rattle.std.specs.Prelude.{◌≡◌, ◌↔◌, IsTrue, IsSome, IfSome, codes};
 ghost use Rattle.std.specs.Str.{IsUtf8};
 ghost use Rattle.wasi_paths.specs.Text.{has_slash, is_plain, is_dot_text, is_name_text, has_nul, is_long, is_entry_name};
@@ -7,7 +7,7 @@ use crate::NAME_MAX;
 
 /// One name in a directory: `.`, or a plain text, which isn't empty, has no `/`, and is neither `.` nor `..`.
 ///
-/// A host looks up names of this type alone, so no look-up ever names `..` or a path of several segments.
+/// A host looks up names of this type alone, so no lookup ever names `..` or a path of several segments.
 /// NUL bytes and the length are no matter of this type: a host refuses them by rules of its own.
 #[derive(Clone, Copy, Debug, PartialEq, Eq)]
 pub struct Name<'a> {

@@ -21,7 +21,7 @@ pub fn parts(path: &str) -> Parts<'_>
     Parts::new(path)
 }
 
-/// Whether the last component is `..`, also with slashes and dots behind it: `Path::ends_with` of `..`, which the crate
+/// Whether the last component is `..`, also with slashes and dots after it: `Path::ends_with` of `..`, which the crate
 /// asks in `manually/open.rs`.
 pub fn ends_with_parent(path: &str) -> bool
     ensures test { result ≡ ends_with_parent path.now }

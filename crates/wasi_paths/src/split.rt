@@ -33,7 +33,7 @@ pub fn split_parent(path: &str) -> Option<(&str, Part<'_>)>
     Some((up_to_last(front), Part::Normal(last)))
 }
 
-// The text up to its last slash, that slash included, and the segment behind it.
+// The text up to its last slash, that slash included, and the segment after it.
 fn cut_last(path: &str) -> (&str, &str)
     ensures { IsCut path.now result.0.now result.1.now }
 {

@@ -479,7 +479,7 @@ same_outcome a b ms ns p q e =
 abbrev outcome_of : Report → GuestReport
 outcome_of r = record { answers = r.answers; memory = r.memory; stderr = r.stderr; stdout = r.stdout }
 
--- the members behind what came of the run
+-- the members after what came of the run
 abbrev pub last_members : Report → Members
 last_members r =
     member (codes "touched") (list_value number_value r.touched) (member (codes "tree") (list_value node_value r.tree) no_members)

@@ -34,10 +34,10 @@ impl EncodeJson for PreopenNodes<'_> {
     }
 }
 
-/// The audit's text: one object of JSON with no space and with keys in byte order, and a newline. The preopened directories
-/// stand in the order in which they are given, and numbers, in decimal, too. The text is written in the memory of a buffer,
-/// whose bytes are let go. `AllocError` where the buffer can't grow to it. It is a text that tells the audit, as
-/// `audits_are_determined` says.
+/// The audit's text: one object of JSON with no space and with keys in byte order, and a newline. The preopened
+/// directories stand in the order in which they are given, and numbers, in decimal, too. The text is written in the
+/// memory of a buffer, whose bytes are dropped. `AllocError` where the buffer can't grow to it. It is a text that tells
+/// the audit, as `audits_are_determined` says.
 pub fn audit_in(
     alloc: Global,
     mut buffer: Vec<u8>,

@@ -42,7 +42,7 @@ impl<'a> Names<'a> for &'a [NewEntry] {
     }
 }
 
-/// What is told of a node, but for the names of a directory: of a node that a tree lends, or of one of a list.
+/// The metadata of a node, but for the names of a directory: of a node that a tree lends, or of one of a list.
 #[derive(Clone, Copy)]
 pub struct LentNode<'a> {
     pub bits: Bits,

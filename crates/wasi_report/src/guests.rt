@@ -49,11 +49,12 @@ impl EncodeJson for GuestOutcome {
     }
 }
 
-/// The text of what came of several guests that ran over one tree: one object of JSON with no space and with keys in byte
-/// order, and a newline. The guests stand in the order in which they are given, each as an object of its answers, its shown
-/// ranges, its standard error and its standard output. The nodes of the tree that they left follow in the order of the list,
-/// each as in a report. The text is written in the memory of a buffer, whose bytes are let go, and `room` is for digits as in
-/// `report_in`. It tells all of this, as `guests_are_determined` says. The only `Err` is want of memory.
+/// The text of what came of several guests that ran over one tree: one object of JSON with no space and with keys in
+/// byte order, and a newline. The guests stand in the order in which they are given, each as an object of its answers,
+/// its shown ranges, its standard error and its standard output. The nodes of the tree that they left follow in the
+/// order of the list, each as in a report. The text is written in the memory of a buffer, whose bytes are dropped, and
+/// `room` is for digits as in `report_in`. It tells all of this, as `guests_are_determined` says. The only `Err` is out
+/// of memory.
 pub fn guests_in<A: Allocator + Copy>(
     alloc: Global,
     room: A,

@@ -1,4 +1,4 @@
-//! What a run came to, and the texts of a report, an audit, a trial and a run of several guests.
+//! The outcome of a run, and the texts of a report, an audit, a trial and a run of several guests.
 #![tactic(auto)]
 
 mod audit;

@@ -1,4 +1,4 @@
-//! What a run came to, and its report as a text.
+//! The outcome of a run, and its report as a text.
 ghost use Rattle.std.specs.Prelude.{◌≡◌, ◌++◌, IfOk, OnOk, All, map};
 ghost use Rattle.hex.specs.Hex.{IsBytes};
 ghost use Rattle.wasi_tree.specs.NodeData.{data_of_node};
@@ -14,7 +14,7 @@ use std::alloc::{AllocError, Allocator, Global};
 use wasi_guest::Answers;
 use wasi_tree::MemTree;
 
-/// What a run came to, but for the tree that it left.
+/// The outcome of a run, but for the tree that it left.
 #[derive(Drop)]
 pub struct Outcome {
     /// The answer of each call, in order.
@@ -27,8 +27,8 @@ pub struct Outcome {
     pub touched: Vec<u64>,
 }
 
-/// The report's text: one object of JSON with no space and with keys in byte order, and a newline. The nodes of the tree
-/// are listed by their numbers. It is a text that tells the report, as `reports_are_determined` says.
+/// The report's text: one object of JSON with no space and with keys in byte order, and a newline. The nodes of the
+/// tree are listed by their numbers. It is a text that tells the report, as `reports_are_determined` says.
 pub fn report(alloc: Global, outcome: &Outcome, tree: &MemTree) -> Result<Vec<u8>, AllocError>
     ensures text { IfOk result (λ text. text.items ≡ report_text (reported outcome.now tree.now.tree.nodes)) }
     ensures ordered { OnOk result (IsOrdered (reported outcome.now tree.now.tree.nodes)) }
@@ -36,9 +36,9 @@ pub fn report(alloc: Global, outcome: &Outcome, tree: &MemTree) -> Result<Vec<u8
     report_in(alloc, alloc, Vec::new(alloc), outcome, tree)
 }
 
-/// The same text as `report`, written in the memory of a buffer, whose bytes are let go. What is kept only while it is
-/// written, the digits of one text of bytes at a time, is taken of `room` where that has enough, else of `alloc`, and given
-/// back to it.
+/// The same text as `report`, written in the memory of a buffer, whose bytes are dropped. What is kept only while it is
+/// written, the digits of one text of bytes at a time, is taken of `room` where that has enough, else of `alloc`, and
+/// given back to it.
 pub fn report_in<A: Allocator + Copy>(
     alloc: Global,
     room: A,

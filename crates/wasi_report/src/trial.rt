@@ -11,10 +11,10 @@ use json::Writer;
 use std::alloc::{AllocError, Allocator, Global};
 use wasi_tree::MemTree;
 
-/// The trial's text: one object of JSON with no space and with keys in byte order, and a newline. It has the nodes of the
-/// tree that stays, the numbers of the nodes that were worked on, and the report as `report_in` writes it. The text is
-/// written in the memory of a buffer, whose bytes are let go, and `room` is for digits as there. It is a text that tells the
-/// trial, as `trials_are_determined` says. The only `Err` is want of memory.
+/// The trial's text: one object of JSON with no space and with keys in byte order, and a newline. It has the nodes of
+/// the tree that stays, the numbers of the nodes that were worked on, and the report as `report_in` writes it. The text
+/// is written in the memory of a buffer, whose bytes are dropped, and `room` is for digits as there. It is a text that
+/// tells the trial, as `trials_are_determined` says. The only `Err` is out of memory.
 pub fn trial_in<A: Allocator + Copy>(
     alloc: Global,
     room: A,

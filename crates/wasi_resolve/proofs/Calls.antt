@@ -1,4 +1,4 @@
--- A call of a modelled host by itself, and behind others that leave the tree.
+-- A call of a modelled host by itself, and after others that leave the tree.
 use Rattle.std.proofs.Common.{ℕ, ◌≡◌, inl, inr, true, List, [], ◌∷◌, ◌++◌, Result, Ok, Err, refl, sym, ap, subst, ◌∙◌, arith}
 use Rattle.std.specs.Prelude.{All, Contains, is_ok, if◌then◌else◌}
 use Rattle.std.specs.FinSet.{contains, insert, members}
@@ -170,7 +170,7 @@ means_then r next Memory means = tt
 means_then r next (Code Io) means = tt
 means_then r next (Code code) means = ap (λ x. x >>= next) means
 
--- ---- one behind another
+-- ---- one after another
 
 -- from nodes that are reached
 module _ {first live : Handles} {w v u : HostModel} {starts ds : List ℕ} (so_far : OnlyLooks first w v starts)

@@ -1,4 +1,4 @@
--- The cause of what two parts answer, one behind the other.
+-- The cause of what two parts answer, one after the other.
 use Rattle.std.proofs.Common.{◌≡◌, ◌≤◌, Result, Ok, Err, ◌∙◌, arith}
 use Rattle.wasi_host.specs.HostLaws.{FaultCount, HasCause}
 use Rattle.wasi_host.specs.declared.errors.ErrorCode.TheVariants.{Io}

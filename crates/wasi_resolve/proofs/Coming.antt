@@ -82,7 +82,7 @@ module _ (t : Tree) (s : ℕ) (aim : Aim) (follow : Bool) where
       (walk_nodes t s aim follow zero slash m left stack).parts
   last_parts slash m left stack = last_most slash _ (leg_nodes t s aim follow slash m left stack) (omega arith)
 
-  -- and no fewer look-ups are reckoned for it, where a link may be read
+  -- and no fewer lookups are reckoned for it, where a link may be read
   leg_within : (links : ℕ) (slash : Bool) (l : Leg (List ℕ))
       → leg_looks l ≤ walk_looks (resume (next_turn links) slash l)
   leg_within links slash (Ended taken outcome) = omega arith

@@ -1,4 +1,4 @@
--- How many look-ups calls of the host add, and how many of these read a link.
+-- How many lookups calls of the host add, and how many of these read a link.
 use Rattle.std.proofs.Common.{ℕ, ◌≡◌, ◌+◌, inl, inr, cond, List, ◌∷◌, ◌++◌, [], Result, Ok, Err, ap, arith, length, length-append}
 use Rattle.std.proofs.lemmas.List.Sums.{sum_by-append}
 use Rattle.wasi_host.specs.HostLaws.{Handles, Logged, LoggedErr, MaybeLogged, LoggedGotErr, MaybeLoggedGot, one_looked}
@@ -10,13 +10,13 @@ use Rattle.wasi_host.specs.declared.lookup.LookKind.{LookKind}
 use Rattle.wasi_resolve.specs.Resolved.{is_link_read, links_read}
 use Rattle.wasi_resolve.specs.Finding.{FewReads}
 
--- ---- weaker bounds, and one part behind another
+-- ---- weaker bounds, and one part after another
 
--- one part, where more look-ups are allowed
+-- one part, where more lookups are allowed
 pub few_more : {m k : ℕ} {a b : List Lookup} (n : ℕ) → FewReads m k a b → FewReads (n + m) k a b
 few_more n few = record { calls = omega (arith, few.calls); links = few.links }
 
--- one part, and another behind it
+-- one part, and another after it
 pub few_then : {m k n l : ℕ} {a b c : List Lookup} → FewReads m k a b → FewReads n l b c → FewReads (m + n) (k + l) a c
 few_then first second =
     record { calls = omega (arith, first.calls, second.calls); links = omega (arith, first.links, second.links) }

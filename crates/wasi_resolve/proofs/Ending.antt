@@ -184,7 +184,7 @@ module _ {old new : Handles} {w u : HostModel} {d : ℕ} {name : List ℕ} (foll
         first true b both = refl
         first false b both = absurd (cc)
 
-    -- no directory, though a slash stands behind it
+    -- no directory, though a slash stands after it
     pub last_not_directory : (is_link_kind m.kind && (follow || slash)) ≡ false
         → (slash && not (is_directory_kind m.kind)) ≡ true
         → EndsUnread old w u d (for_look follow slash) name (Err (Code NotDirectory))

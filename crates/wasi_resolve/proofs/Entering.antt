@@ -167,7 +167,7 @@ module _ {old mid : Handles} {w v : HostModel} (here : ℕ) {name : List ℕ} {o
         looks = first;
       }
 
-  -- ---- a look behind it
+  -- ---- a look after it
 
   module _ {new : Handles} {u : HostModel} (still : new ≡ mid) where
     -- the look is refused

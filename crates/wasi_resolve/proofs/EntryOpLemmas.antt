@@ -209,7 +209,7 @@ module _ {A : Type 0} {first : Handles} {w v : HostModel} (s : ℕ) (text : List
       (subst (λ q. Resolved first w u (done_in w.tree s q c) shown r) (sym placed.answer) there)
       (subst (λ l. ModelStays l u z) closes closed)
 
--- ---- where the look-ups begin
+-- ---- where the lookups begin
 
 -- a place's directory is the start, or was got
 pub begins_at : (start : ℕ) (first mid : Handles) (d : MaybeOwned) → LiveIn start first d mid → (h : ℕ)

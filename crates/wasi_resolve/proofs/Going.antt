@@ -194,7 +194,7 @@ no_parts items is = by (parts_left items) (length-parts items ∙ is)
     by [] none = refl
     by (p ∷ ps) none = absurd (omega arith)
 
--- ---- one behind another
+-- ---- one after another
 
 module _ {b : Begin} {a c : Way} (parts : List Component) (so_far : GoesOn b a c) (is : c.left ≡ parts) where
   abbrev here : Way

@@ -1,4 +1,4 @@
--- The look-ups of a walk: where they begin.
+-- The lookups of a walk: where they begin.
 use Rattle.std.proofs.Common.{ℕ, ◌≡◌, ◌⊎◌, inl, inr, List, [], ◌∷◌, ◌++◌, Option, Some, None, refl, sym, ap, subst, ◌∙◌}
 use Rattle.std.specs.Prelude.{Contains}
 use Rattle.std.proofs.lemmas.List.Elements.{Contains-append_left, Contains-push_cases}
@@ -36,7 +36,7 @@ pub among_more : {start : ℕ} (stack : List ℕ) (h : ℕ) → (q : ℕ) → Am
 among_more stack h q (inl is) = inl (inl is)
 among_more stack h q (inr has) = elim (Contains-push_cases stack h q has) [ inl was ↦ inl (inr was) | inr is ↦ inr (sym is) ]
 
--- the last look-up
+-- the last lookup
 
 last_from-push : (got : Option ℕ) (lookups : List Lookup) (entry : Lookup)
     → last_from got (lookups ++ entry ∷ []) ≡ entry.got

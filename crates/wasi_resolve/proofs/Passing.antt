@@ -78,7 +78,7 @@ module _ {A : Type 0} {old new : Handles} {w u : HostModel} {d : ℕ} {name : Li
         ∙ ap (λ t. slash || adds_slash t (parts_left items)) (sym (read_text modelled));
   }
 
-  -- it was read, and memory was wanted for its parts
+  -- it was read, and memory ran out for its parts
   pub reads_wants : {text : A} {e : HostError} → RefinesCall {A = A} old new w u (ReadLinkAt d name) shown (Ok text)
       → e ≡ Memory
       → ReadFails old w u (record { directory = d; name = name }) e

@@ -55,7 +55,7 @@ stop_resolved {w = w} {u = u} {s = s} aim code is looks =
     (subst (MeansErr (meant_at w.tree aim s (Stop code)).answer) (sym is) (err_means _ code
     (answer_stop w.tree aim s code))) looks
 
--- a fault of the host, or want of memory, wherever the walk would end
+-- a fault of the host, or out of memory, wherever the walk would end
 pub fault_resolved : {first : Handles} {w u : HostModel} {s : ℕ} (aim : Aim) (outcome : Outcome) {e : HostError} → IsFault e
     → OnlyLooks first w u (s ∷ [])
     → Resolved first w u (meant_at w.tree aim s outcome) (shown_found u.held) (Err e)

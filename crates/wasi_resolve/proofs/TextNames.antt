@@ -16,7 +16,7 @@ use Rattle.wasi_paths.proofs.PlainNames.{names_plain}
 
 -- ---- segments
 
--- what stands before a slash of a text in UTF-8, and what stands behind it
+-- what stands before a slash of a text in UTF-8, and what stands after it
 module _ {text : List ℕ} (front last : List ℕ) (joined : text ≡ front ++ 47 ∷ last) (is : IsUtf8 text) where
   long : length text ≡ length front + suc (length last)
   long = ap length joined ∙ length-append front (47 ∷ last)

@@ -316,7 +316,7 @@ module _ {first : Handles} {w v : HostModel} (s : ℕ) (text : List ℕ) (e : �
       (sym placed.answer) there)
       (subst (λ l. ModelStays l u z) closes closed)
 
--- ---- where the look-ups begin
+-- ---- where the lookups begin
 
 -- the old place is refused
 pub traced_old : {old new : ℕ} {a b : List Lookup} → HasProvenance (Only old) Nothing Nothing a b
@@ -359,9 +359,9 @@ pub traced_at_two : {starts found : ℕ → Type 0} {a b c d : List Lookup} → 
     → HasProvenance found Nothing Nothing b c → d ≡ c → HasProvenance starts Nothing Nothing a d
 traced_at_two first second closed = traced_same _ closed (traced_last (λ h has. has) first second)
 
--- ---- how many look-ups
+-- ---- how many lookups
 
--- a call at two places looks twice, and reads no link; the closes behind it look nothing up
+-- a call at two places looks twice, and reads no link; the closes after it look nothing up
 pub two_reads : {A : Type 0} {before now last : List Lookup} (kind : LookKind) (old new : ℕ) (r : Result A HostError)
     → links_read (both_looked kind old new) ≡ 0 → Logged before (both_looked kind old new) r now → last ≡ now
     → FewReads 2 0 before last

@@ -54,7 +54,7 @@ answer_in t (Symlink text) p = host_answer t (SymlinkAt text p.directory p.name)
 answer_in t ReadLink p = host_answer t (ReadLinkAt p.directory p.name) >>= unrooted
 answer_in t (SetTimes atime mtime) p = host_answer t (TimesAt p.directory p.name atime mtime)
 
--- the text by which the place is found: a directory may be made by a text with slashes behind its name
+-- the text by which the place is found: a directory may be made by a text with slashes after its name
 abbrev pub place_text : EntryOp → List ℕ → List ℕ
 place_text CreateDir text = strip_dir_suffix text
 place_text RemoveFile text = text

@@ -1,4 +1,4 @@
--- What a walk is for and what it finds, and what a part of it does over every host: to the handles and to the look-ups.
+-- What a walk is for and what it finds, and what a part of it does over every host: to the handles and to the lookups.
 use Rattle.std.specs.Prelude.{◌≡◌, ◌≤◌, ◌+◌, ℕ, Bool, true, false, List, length, Option, Some, None, Result, Ok, Err}
 use Rattle.std.specs.FinSet.{contains, insert}
 use Rattle.wasi_host.specs.Provenance.{HasProvenance, Nothing}
@@ -34,7 +34,7 @@ abbrev pub aim_follows : Aim → Bool
 aim_follows (aims.Open options) = follows options.follow
 aim_follows (aims.Look follow) = follows follow
 
--- what a walk with this aim is for, where a slash stands behind its last name, or none
+-- what a walk with this aim is for, where a slash stands after its last name, or none
 abbrev pub course_of : Aim → Bool → Course
 course_of aim slash = record { aim = aim_of aim; follow = aim_follows aim; slash = slash }
 
@@ -106,12 +106,12 @@ abbrev pub IsGot : Option ℕ → ℕ → Type 0
 IsGot (Some h) q = q ≡ h
 IsGot None q = ⊥
 
--- it is what the last look-up got
+-- it is what the last lookup got
 abbrev pub IsLast : Option ℕ → List Lookup → Type 0
 IsLast (Some h) lookups = last_got lookups ≡ Some h
 IsLast None lookups = Unit {0}
 
--- ---- where look-ups begin
+-- ---- where lookups begin
 
 -- from a stack, which is another one then
 abbrev pub StackTraced : ℕ → List ℕ → List ℕ → List Lookup → List Lookup → Type 0
@@ -125,9 +125,9 @@ ReachTraced start before after (Ok (reach.Found it)) old new =
     HasProvenance (Among start before) Nothing (IsGot (handle_found (Ok it))) old new
 ReachTraced start before after (Err e) old new = HasProvenance (Among start before) Nothing Nothing old new
 
--- ---- how many look-ups were made
+-- ---- how many lookups were made
 
--- at most so many look-ups more, of which so many at most read a link
+-- at most so many lookups more, of which so many at most read a link
 pub record FewReads (most most_links : ℕ) (old new : List Lookup) : Type 0 where
   pub calls : length new ≤ length old + most
   pub links : links_read new ≤ links_read old + most_links

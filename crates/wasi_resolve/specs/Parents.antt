@@ -53,7 +53,7 @@ abbrev pub GotParent : Result Parent HostError → ℕ → Type 0
 GotParent (Ok parent) q = GotIn parent.directory q
 GotParent (Err e) q = ⊥
 
--- a directory that was opened is what the last look-up got, so nothing was looked up in it
+-- a directory that was opened is what the last lookup got, so nothing was looked up in it
 abbrev pub LastIn : MaybeOwned → List Lookup → Type 0
 LastIn (Borrowed h) lookups = Unit {0}
 LastIn (Owned h) lookups = last_got lookups ≡ Some h
@@ -66,7 +66,7 @@ parent_in (Some halves) = halves.0
 abbrev pub parent_text : List ℕ → List ℕ
 parent_text text = parent_in (split text)
 
--- how many look-ups the walk to it makes at most. A place in the start itself is found by its text alone.
+-- how many lookups the walk to it makes at most. A place in the start itself is found by its text alone.
 unfoldable pub parent_looks : Tree → ℕ → List ℕ → ℕ
 parent_looks t s text =
     if is_empty (parent_text text) then 0 else walk_looks (walk t s (parent_text text) (Open directory_options) true)

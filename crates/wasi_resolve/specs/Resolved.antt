@@ -37,16 +37,16 @@ is_link_read entry = by entry.kind
 abbrev pub links_read : List Lookup → ℕ
 links_read lookups = count_by is_link_read lookups
 
--- what the last of these look-ups got; of none, this
+-- what the last of these lookups got; of none, this
 abbrev pub last_from : Option ℕ → List Lookup → Option ℕ
 last_from got [] = got
 last_from got (entry ∷ rest) = last_from entry.got rest
 
--- the handle that the last look-up got, if it got one
+-- the handle that the last lookup got, if it got one
 unfoldable pub last_got : List Lookup → Option ℕ
 last_got lookups = last_from None lookups
 
--- the handle of an answer is what the last look-up got, so nothing was looked up behind it
+-- the handle of an answer is what the last lookup got, so nothing was looked up after it
 abbrev pub GotLast : Result ℕ HostError → List Lookup → Type 0
 GotLast (Ok h) lookups = last_got lookups ≡ Some h
 GotLast (Err e) lookups = Unit {0}
@@ -75,7 +75,7 @@ abbrev pub call_meant : Tree → (call : HostCall) → List ℕ → Meant (HostA
 call_meant t call ends =
     record { starts = starts_of call; answer = host_answer t call; stepped = step t call; ends = ends }
 
--- The answer is the one that is meant, unless memory was wanted or the host failed; the tree is as before, or after the
+-- The answer is the one that is meant, unless memory ran out or the host failed; the tree is as before, or after the
 -- one step where it is answered; what is touched is reached from the starts, or was made; handles that were live keep
 -- what they stand for.
 pub record Resolved {A B : Type 0} (live : Handles) (w v : HostModel) (meant : Meant B) (shown : A → B)

@@ -20,12 +20,12 @@ pub record Places : Type 0 where
   pub old : Place
   pub new : Place
 
--- the texts by which the places are found: a rename lets slashes behind its names go
+-- the texts by which the places are found: a rename lets slashes after its names go
 abbrev pub text_for : TwoPathOp → List ℕ → List ℕ
 text_for HardLink text = text
 text_for Rename text = strip_dir_suffix text
 
--- a slash behind either name asks for a directory
+-- a slash after either name asks for a directory
 abbrev pub asks_directory : List ℕ → List ℕ → Bool
 asks_directory old_text new_text = trailing_slash old_text || trailing_slash new_text
 

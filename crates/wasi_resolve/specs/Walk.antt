@@ -24,7 +24,7 @@ pub data Aim : Type 0 where
   Open : Options → Aim
   Look : Aim
 
--- where a walk ends: refused, at a last name in a directory with whether a slash stood behind it, or in a directory
+-- where a walk ends: refused, at a last name in a directory with whether a slash stood after it, or in a directory
 pub data Outcome : Type 0 where
   Stop : ErrorCode → Outcome
   Name : ℕ → List ℕ → Bool → Outcome
@@ -36,7 +36,7 @@ pub data Outcome : Type 0 where
 abbrev pub middle_options : Options
 middle_options = record no_options { read = true; dir_required = true; follow = No }
 
--- what a last name is opened with: the options, a directory required behind a slash, links not followed
+-- what a last name is opened with: the options, a directory required after a slash, links not followed
 abbrev pub last_options : Options → Bool → Options
 last_options o slash = record o { dir_required = o.dir_required || slash; follow = No }
 
@@ -71,7 +71,7 @@ is_to_be_read t aim follow slash is_last d name =
 -- ---- the walk
 
 -- What the parts up to the next link come to, with how many parts were taken: an outcome; or a link to be read, in a
--- position, with its text and the parts left behind it.
+-- position, with its text and the parts left after it.
 pub data Leg (P : Type 0) : Type 0 where
   Ended : ℕ → Outcome → Leg P
   Linked : ℕ → P → List ℕ → List Component → Leg P
@@ -106,7 +106,7 @@ pub record Walk : Type 0 where
   pub parts : ℕ
   pub links : ℕ
 
--- how many look-ups a walk makes at most: one for each part, two more for each link that it reads, and one more
+-- how many lookups a walk makes at most: one for each part, two more for each link that it reads, and one more
 abbrev pub walk_looks : Walk → ℕ
 walk_looks w = w.parts + 2 * w.links + 1
 

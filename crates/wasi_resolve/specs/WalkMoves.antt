@@ -7,7 +7,7 @@ use Rattle.wasi_host.specs.declared.errors.ErrorCode.TheVariants.{Access, Loop, 
 use Rattle.wasi_paths.specs.Parts.{Component, RootDir, CurDir, ParentDir, Normal, parts, trailing_slash, is_empty}
 use Rattle.wasi_resolve.specs.Walk.{Aim, Outcome, Stop, Name, Dot, Position, at, is_to_be_read, refused, adds_slash, Walk, walk}
 
--- where a walk stands between two moves: the parts left, the position, whether a slash stands behind the last part, and
+-- where a walk stands between two moves: the parts left, the position, whether a slash stands after the last part, and
 -- how many links were read
 pub record Stage : Type 0 where
   pub left : List Component

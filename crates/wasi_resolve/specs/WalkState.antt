@@ -21,7 +21,7 @@ begin live model start = record { live = live; model = model; start = start }
 abbrev pub origin : Begin → ℕ
 origin b = (b.model.held b.start).node
 
--- what it is for, whether a link under its last name is followed, and whether a slash stands behind that name
+-- what it is for, whether a link under its last name is followed, and whether a slash stands after that name
 pub record Course : Type 0 where
   pub aim : Aim
   pub follow : Bool

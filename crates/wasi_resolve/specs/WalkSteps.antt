@@ -1,5 +1,5 @@
 -- What a part of a walk does over a modelled host: b is where the walk began, a where it stands before the
--- part, and c behind it. Of calls by themselves w and u are the models before and behind them.
+-- part, and c after it. Of calls by themselves w and u are the models before and after them.
 use Rattle.std.specs.Prelude.{◌≡◌, ◌⊎◌, ◌≤◌, ◌+◌, ℕ, suc, Bool, true, false, ◌&&◌, ◌||◌, List, [], ◌∷◌, ◌++◌, length, Option, Some, None, Result, Ok, Err}
 use Rattle.std.specs.FinSet.{contains}
 use Rattle.wasi_host.specs.Options.{Options}
@@ -50,7 +50,7 @@ pub record ModelStays (live : Handles) (w v : HostModel) : Type 0 where
   pub touched : v.touched ≡ w.touched
   pub keeps : (h : ℕ) → contains live h ≡ true → v.held h ≡ w.held h
 
--- a failure of the host, or want of memory, which say nothing of what is meant
+-- a failure of the host, or out of memory, which say nothing of what is meant
 abbrev pub IsFault : HostError → Type 0
 IsFault e = (e ≡ Memory) ⊎ (e ≡ Code Io)
 
@@ -221,7 +221,7 @@ abbrev pub taken_by : {P : Type 0} → Leg P → ℕ
 taken_by (Ended m outcome) = m
 taken_by (Linked m position text left) = m
 
--- how many look-ups such parts come to at most, with those before them: one for each part, and one more, or two where
+-- how many lookups such parts come to at most, with those before them: one for each part, and one more, or two where
 -- their link is read
 abbrev pub leg_looks : {P : Type 0} → Leg P → ℕ
 leg_looks (Ended m outcome) = m + 1
@@ -260,7 +260,7 @@ Reaches b k m a c (Err e) = ReachFails b k m a c e ⊎ ReachesEnd b k m a c (Err
 
 -- ---- a link
 
--- it was read: the parts left and the slash before, and those behind it
+-- it was read: the parts left and the slash before, and those after it
 pub record ReadsText (live : Handles) (w u : HostModel) (at : Place) (before left : List Component)
     (slash slash' : Bool) : Type 0 where
   pub looks : OnlyLooks live w u (at.directory ∷ [])

@@ -22,7 +22,7 @@ use wasi_host::{ErrorCode, Handle, Host, HostError, SystemTime};
 use wasi_paths::{Name, has_root, strip_dir_suffix};
 
 /// Makes an empty directory at the place that a path names below a start directory: the crate's `create_dir` of
-/// `manually`. Slashes behind the name are let go, as POSIX's `mkdir` does. Refusals: those of the walk to the name's
+/// `manually`. Slashes after the name are removed, as POSIX's `mkdir` does. Refusals: those of the walk to the name's
 /// directory, NoEntry of the empty path, then those of the host's `make_dir_at`, Exist where the path ends in `.` or
 /// `..` among them.
 ///
@@ -55,7 +55,7 @@ pub fn create_dir<H: Host>(
 
 /// Drops the name of a file or link at the place that a path names below a start directory; the link itself is
 /// dropped, not what it leads to: the crate's `remove_file`. Refusals: those of the walk to the name's directory,
-/// NoEntry of the empty path, then those of the host's `unlink_at`. A path with a slash behind its last name names a
+/// NoEntry of the empty path, then those of the host's `unlink_at`. A path with a slash after its last name names a
 /// directory, and is refused so.
 pub fn remove_file<H: Host>(
     alloc: Global,
@@ -78,7 +78,7 @@ pub fn remove_file<H: Host>(
 }
 
 /// Drops an empty directory at the place that a path names below a start directory: the crate's `remove_dir`. A handle
-/// may still stand for it, but it takes no name any more. Refusals: those of the walk to the name's directory, NoEntry
+/// may still refer to it, but it takes no name any more. Refusals: those of the walk to the name's directory, NoEntry
 /// of the empty path, then those of the host's `remove_dir_at`; a path that ends in `/`, `.` or `..` is Invalid, as its
 /// place is `.`.
 pub fn remove_dir<H: Host>(
@@ -102,8 +102,9 @@ pub fn remove_dir<H: Host>(
 }
 
 /// Makes a link of this text at the place that a path names below a start directory: the crate's `symlink`. A text with
-/// a root is refused NotPermitted before anything is asked of the host. Then come the refusals of the walk to the name's
-/// directory, NoEntry of the empty path, and those of the host's `symlink_at`. Nothing need be where the text leads.
+/// a root is refused NotPermitted before anything is asked of the host. Then come the refusals of the walk to the
+/// name's directory, NoEntry of the empty path, and those of the host's `symlink_at`. Nothing need be where the text
+/// leads.
 pub fn symlink<H: Host>(
     alloc: Global,
     host: &mut H,
@@ -133,7 +134,7 @@ pub fn symlink<H: Host>(
 
 /// Sets the given times of what the place holds that a path names below a start directory, that of its last read and
 /// that of its last change: the crate's `set_times_nofollow`. One that isn't given stays. A link's times are its own,
-/// unless a slash stands behind it: then the place is `.` in the directory that it leads to. Refusals: those of the
+/// unless a slash stands after it: then the place is `.` in the directory that it leads to. Refusals: those of the
 /// walk to the name's directory, NoEntry of the empty path, then those of the host's `times_at`.
 pub fn set_times_nofollow<H: Host>(
     alloc: Global,
@@ -226,8 +227,8 @@ fn change_at<H: Host>(
 }
 
 /// The text of the link at the place that a path names below a start directory: the crate's `read_link`. The link
-/// itself is read, whatever its text leads to. Refusals: those of the walk to the name's directory, NoEntry of the empty
-/// path, those of the host's `read_link_at`, and NotPermitted where the text has a root.
+/// itself is read, whatever its text leads to. Refusals: those of the walk to the name's directory, NoEntry of the
+/// empty path, those of the host's `read_link_at`, and NotPermitted where the text has a root.
 pub fn read_link<H: Host>(
     alloc: Global,
     host: &mut H,

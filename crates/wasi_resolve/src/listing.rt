@@ -12,10 +12,10 @@ use std::alloc::Global;
 use wasi_host::{DirEntry, FollowSymlinks, Handle, Host, HostError, OpenOptions, readdir_options};
 use wasi_paths::Name;
 
-/// All names of a directory but `.` and `..`, in byte order, each with the kind of the node that it holds, a link's own:
-/// the crate's `read_dir`. A name has 1 to 255 bytes, no slash and no NUL. The directory is opened anew for listing, so
-/// it needs its read and search bits, whatever its handle was opened for. Refusals: those of the host's `open_at` of
-/// `.`, asked to read and list a directory, then those of its `list`.
+/// All names of a directory but `.` and `..`, in byte order, each with the kind of the node that it holds, a link's
+/// own: the crate's `read_dir`. A name has 1 to 255 bytes, no slash and no NUL. The directory is opened again for
+/// listing, so it needs its read and search bits, whatever its handle was opened for. Refusals: those of the host's
+/// `open_at` of `.`, asked to read and list a directory, then those of its `list`.
 ///
 /// Memory is taken by the length of the listing. Where it is wanted, the tree and the live handles are as before.
 #[tactic(auto, using(wasi_host::proofs::Chain::live_rules))]

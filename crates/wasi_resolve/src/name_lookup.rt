@@ -79,7 +79,7 @@ fn is_read(kind: FileType, may_read: bool) -> bool
     is_link_kind(kind) && may_read
 }
 
-/// Whether what is looked at isn't the directory that a slash behind it requires.
+/// Whether what is looked at isn't the directory that a slash after it requires.
 fn is_no_directory(kind: FileType, slash: bool) -> bool
     ensures { result ≡ (slash && not (is_directory_kind kind)) }
 {
@@ -87,8 +87,8 @@ fn is_no_directory(kind: FileType, slash: bool) -> bool
 }
 
 /// Opens a name. `None` is a link that is to be read, where links may be read. A name is a link's where the open is
-/// refused Loop; or is refused NotDirectory, a directory is required, and a look says so. Where that look fails, that is
-/// the answer.
+/// refused Loop; or is refused NotDirectory, a directory is required, and a look says so. Where that look fails, that
+/// is the answer.
 pub(crate) fn open_or_link<H: Host>(
     host: &mut H,
     here: Handle,
@@ -139,7 +139,7 @@ fn middle_options() -> OpenOptions
     options
 }
 
-/// What a last name is opened with: a directory is required behind a slash, and links aren't followed.
+/// What a last name is opened with: a directory is required after a slash, and links aren't followed.
 fn last_options(options: &OpenOptions, slash: bool) -> OpenOptions
     ensures { result ≡ last_options options.now slash }
 {

@@ -17,8 +17,8 @@ use wasi_host::{FollowSymlinks, Handle, Host, HostError, Metadata, OpenOptions, 
 /// Opens a path below a start directory with the options, whose `follow` says whether a link under the last name is
 /// read: the crate's `open` in `manually/open.rs`. The walk takes one part after another, and reads links itself, so no
 /// path leaves the start directory; one that would is refused NotPermitted. It makes a file, or cuts one, where the
-/// options ask for it and nothing is refused. It reads at most 40 links, and is refused Loop at the next one. It makes at
-/// most one look-up for each part that it takes, two more for each link that it reads, and one more.
+/// options ask for it and nothing is refused. It reads at most 40 links, and is refused Loop at the next one. It makes
+/// at most one lookup for each part that it takes, two more for each link that it reads, and one more.
 ///
 /// Memory is taken by the number of parts. Where it is wanted, the tree and the live handles are as before.
 pub fn open<H: Host>(
@@ -74,9 +74,9 @@ pub fn open_dir<H: Host>(
 }
 
 /// The metadata of the node that a path names below a start directory; a link under the last name is read where it is
-/// followed, or where a slash stands behind it: the crate's `stat` in `manually/open.rs`. It walks as `open` does, and
+/// followed, or where a slash stands after it: the crate's `stat` in `manually/open.rs`. It walks as `open` does, and
 /// takes memory as it does. Where the path ends in a directory, that one needs its search bit; where a slash stands
-/// behind the last name, its node must be a directory, or the answer is NotDirectory.
+/// after the last name, its node must be a directory, or the answer is NotDirectory.
 pub fn stat<H: Host>(
     alloc: Global,
     host: &mut H,

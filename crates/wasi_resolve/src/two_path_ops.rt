@@ -18,7 +18,7 @@ use wasi_paths::{path_has_trailing_slash, strip_dir_suffix};
 
 /// Gives the file or link at the place that the old path names below one start directory a further name, at the place
 /// that the new path names below another: the crate's `hard_link`, as POSIX's `linkat` without its flag. A link itself
-/// gets the name, not what it leads to. A path that ends in `/`, `.` or `..` stands for a directory, so that such an
+/// gets the name, not what it leads to. A path that ends in `/`, `.` or `..` names a directory, so that such an
 /// old one is NotPermitted at the end, and such a new one Exist. Refusals: those of the walk to the old name's
 /// directory, NoEntry of the empty old path, then the same of the new path, then those of the host's `link_at`.
 ///
@@ -62,7 +62,7 @@ pub fn hard_link<H: Host>(
 }
 
 /// Moves what the place holds that the old path names below one start directory to the place that the new path names
-/// below another: the crate's `rename`. Slashes behind either name are let go, and then a directory is asked for. What
+/// below another: the crate's `rename`. Slashes after either name are removed, and then a directory is asked for. What
 /// the new place held loses its name; where both places hold one node, all stays as it is. A path that then ends in `.`
 /// or `..` is Busy. Refusals: those of the walk to the old name's directory, NoEntry of the empty old path, then the
 /// same of the new path, then those of the host's `rename_at`, which moves nothing into itself or below.
@@ -113,7 +113,7 @@ pub fn rename<H: Host>(
     moved
 }
 
-/// Whether a slash behind either name asks for a directory.
+/// Whether a slash after either name asks for a directory.
 fn asks_directory(old_path: &str, new_path: &str) -> bool
     ensures { result ≡ asks_directory old_path.now new_path.now }
 {

@@ -24,7 +24,7 @@ use std::alloc::Global;
 use wasi_host::{ErrorCode, Handle, Host, HostError};
 use wasi_paths::{Name, path_has_trailing_slash};
 
-/// One part. The walk stops at a last name, and goes down into the others; `None` says that it goes on behind the part.
+/// One part. The walk stops at a last name, and goes down into the others; `None` says that it goes on after the part.
 fn step<'p, H: Host>(
     host: &mut H,
     start: Handle,
@@ -82,8 +82,8 @@ fn leg<'p, H: Host>(host: &mut H, start: Handle, way: &mut Way<'p>) -> Result<St
     Ok(Stop::Dot)
 }
 
-/// A walk that ends in a directory, since no part is left: it is opened, or looked at, for which it must have its search
-/// bit.
+/// A walk that ends in a directory, since no part is left: it is opened, or looked at, for which it must have its
+/// search bit.
 fn at_dot<H: Host>(host: &mut H, here: Handle, aim: &Aim) -> Result<Found, HostError>
     requires { contains (H.live host.old) here ≡ true }
     ensures cause { HasCause (H.faults host.old) (H.faults host.new) result }
@@ -147,7 +147,7 @@ fn reach<'p, H: Host>(
     }
 }
 
-/// Whether a slash stands behind the last part, once a link's text has been put there.
+/// Whether a slash stands after the last part, once a link's text has been put there.
 fn slash_behind(slash: bool, was_last: bool, text: &str) -> bool
     ensures { result ≡ (slash || (was_last && trailing_slash text.now)) }
 {
@@ -155,7 +155,7 @@ fn slash_behind(slash: bool, was_last: bool, text: &str) -> bool
 }
 
 /// Reads a link and puts the parts of its text, which is kept in the arena, before those that are left. It answers
-/// whether the last part has a slash behind it then.
+/// whether the last part has a slash after it then.
 fn read_link<'p, H: Host>(
     texts: &'p Bump,
     alloc: Global,
@@ -181,7 +181,7 @@ fn read_link<'p, H: Host>(
     Ok(slash_behind(slash, was_last, text))
 }
 
-/// The whole walk along the parts that are left. It reads a link in each turn, and none behind the last turn.
+/// The whole walk along the parts that are left. It reads a link in each turn, and none after the last turn.
 fn along<'p, H: Host>(
     texts: &'p Bump,
     alloc: Global,

@@ -30,7 +30,7 @@ pub record IsSeen {T : Type 0} (seen : T → MemState) (modelled : Bool) (model 
   pub looks : (t : T) → lookups t ≡ (seen t).lookups
   pub quiet : (t : T) → faults t ≡ never_fails
 
--- all that is said of a call over a tree behind calls that fail
+-- all that is said of a call over a tree after calls that fail
 pub record Did {T : Type 0} (given new : View (Failing T)) (before after : List ℕ) (call : Call)
     (result : Result Value P1Error) (modelled : Bool) (model : T → HostModel) (live : T → Handles) (lookups : T → List Lookup)
     (faults : T → FaultCount) : Type 0 where

@@ -22,7 +22,7 @@ use Rattle.wasi_sandbox.specs.declared.result_layout.ResultAddresses.{ResultAddr
 use Rattle.wasi_tree.specs.MemState.{MemState, live_of, model_of}
 use Rattle.wasi_sandbox.specs.declared.sandbox.Sandbox.{Sandbox}
 
--- ---- a sandbox's host: a tree of any kind, which is seen as one in memory is, behind calls that fail
+-- ---- a sandbox's host: a tree of any kind, which is seen as one in memory is, after calls that fail
 
 abbrev pub model_in : {T : Type 0} → (T → MemState) → Failing T → HostModel
 model_in seen host = model_of (seen host.inner)
@@ -50,7 +50,7 @@ state_with seen s memory = state_of (model_in seen) s.context memory
 abbrev pub Failed : {T : Type 0} → Sandbox T → Sandbox T → Type 0
 Failed old new = Rose (faults_in old.context.host) (faults_in new.context.host)
 
--- one answer more, but where memory was wanted; no more than 64 bits hold
+-- one answer more, but where memory ran out; no more than 64 bits hold
 abbrev pub answered_after : ℕ → Result Value P1Error → ℕ
 answered_after answered (Err Memory) = answered
 answered_after answered result = min (answered + 1) (2 ^ 64 - 1)

@@ -36,7 +36,7 @@ pub record IsBegunBy {T : Type 0} (seen : T → MemState) (tree : Tree) (plan : 
   pub answered : s.answered ≡ 0
 
 -- bytes begin a sandbox where they are a script with a bare plan; else they are refused by their verdict, or as no bare
--- one; or memory was wanted
+-- one; or memory ran out
 abbrev pub StartsBy : {T : Type 0} → (T → MemState) → List ℕ → Result (Sandbox T) StartError → Type 0
 StartsBy seen bytes (Ok s) = (plan : Plan) × IsVerdict bytes (Ok plan) × (has_no_guest plan ≡ true)
     × IsBegunBy seen (tree_of plan.nodes plan.limits) plan s
@@ -71,14 +71,14 @@ over tree (Ok plan) =
 abbrev pub verdict_over : Tree → List ℕ → Result Plan StartError
 verdict_over tree bytes = over tree (read_plan bytes)
 
--- what is run over a tree is that of the verdict, or the refusal is; or memory was wanted
+-- what is run over a tree is that of the verdict, or the refusal is; or memory ran out
 abbrev pub JudgesOver : Tree → List ℕ → Result Session StartError → Type 0
 JudgesOver tree bytes (Ok session) = verdict_over tree bytes ≡ Ok (planned (map data_of_node tree.nodes) tree.limits session)
 JudgesOver tree bytes (Err Memory) = ⊤
 JudgesOver tree bytes (Err error) = verdict_over tree bytes ≡ Err error
 
 -- bytes begin a sandbox that has this tree, on which no step has worked, by their verdict over it, or are refused by that;
--- or memory was wanted
+-- or memory ran out
 abbrev pub StartsOver : {T : Type 0} → (T → MemState) → Tree → List ℕ → Result (Sandbox T) StartError → Type 0
 StartsOver seen tree bytes (Ok s) = (plan : Plan) × (verdict_over tree bytes ≡ Ok plan)
     × IsBegunBy seen (record tree { worked = empty }) plan s

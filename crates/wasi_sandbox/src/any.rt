@@ -14,8 +14,8 @@ use wasi_overlay::Overlay;
 use wasi_p1::{Call, P1Error, Value};
 use wasi_tree::MemTree;
 
-/// A sandbox that stands alone, over a tree of its own, or over a tree that stays for as long as the program runs: for a
-/// program that holds both kinds alike.
+/// A sandbox that stands alone, over a tree of its own, or over a tree that stays for as long as the program runs: for
+/// a program that holds both kinds alike.
 #[derive(Drop)]
 pub enum AnySandbox {
     /// Over a tree of its own.
@@ -61,7 +61,7 @@ impl AnySandbox {
         }
     }
 
-    /// The report of the sandbox as it stands, as `Sandbox::report`. The only `Err` is want of memory.
+    /// The report of the sandbox as it stands, as `Sandbox::report`. The only `Err` is out of memory.
     pub fn report(&self, alloc: Global) -> Result<Vec<u8>, AllocError>
         ensures tells { IfOk result (λ text. Tells (λ m. m) (one_of self.now) text.items) }
     {
@@ -71,7 +71,7 @@ impl AnySandbox {
         }
     }
 
-    /// The tree as it stands, in memory of its own, as `Sandbox::commit`. The only `Err` is want of memory.
+    /// The tree as it stands, in memory of its own, as `Sandbox::commit`. The only `Err` is out of memory.
     pub fn commit(&self, alloc: Global) -> Result<MemTree, AllocError>
         ensures { IfOk result (IsFreshOn (one_of self.now).context.host.inner.tree) }
     {
@@ -81,8 +81,8 @@ impl AnySandbox {
         }
     }
 
-    /// The numbers of the nodes that steps have worked on, rising, of a sandbox over a tree that stays, as `Sandbox::kept`.
-    /// None where it stands alone. The only `Err` is want of memory.
+    /// The numbers of the nodes that steps have worked on, rising, of a sandbox over a tree that stays, as
+    /// `Sandbox::kept`. None where it stands alone. The only `Err` is out of memory.
     pub fn kept(&self, alloc: Global) -> Result<Option<Vec<u64>>, AllocError>
         ensures kept { IfOk result (Keeps self.now) }
     {

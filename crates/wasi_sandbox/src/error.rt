@@ -10,19 +10,19 @@ use wasi_form::{Refusal, ScriptError};
 /// Why no sandbox is begun.
 #[derive(Debug, Drop, Error)]
 pub enum StartError {
-    /// The text isn't a script; or it isn't within the limits over the tree that stays, of which each preopen has to be a
-    /// directory.
+    /// The text isn't a script; or it isn't within the limits over the tree that stays, of which each preopen has to be
+    /// a directory.
     #[error("script refused")]
     Refused(Refusal),
-    /// The script has calls, a memory or ranges of it to be shown. A sandbox's guest makes its own calls, and its engine
-    /// has its memory.
+    /// The script has calls, a memory or ranges of it to be shown. A sandbox's guest makes its own calls, and its
+    /// engine has its memory.
     #[error("the script has calls, a memory or ranges of it to be shown")]
     Guest,
-    /// The script of a sandbox over a tree that stays has nodes, or limits other than those of a script that doesn't say
-    /// them. Such a sandbox has the nodes and the limits of its tree.
+    /// The script of a sandbox over a tree that stays has nodes, or limits other than those of a script that doesn't
+    /// say them. Such a sandbox has the nodes and the limits of its tree.
     #[error("the script has nodes or limits of its own")]
     OwnTree,
-    /// Memory was wanted.
+    /// Memory ran out.
     #[error("out of memory")]
     Memory,
 }

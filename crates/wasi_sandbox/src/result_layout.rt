@@ -6,8 +6,8 @@ ghost use Rattle.wasi_guest.specs.declared.answer.Value.TheVariants.{Number, Pai
 use crate::records::{fdstat_bytes, filestat_bytes, low_half, prestat_bytes};
 use wasi_guest::{Call, Value, in_memory, write_bytes};
 
-/// The addresses in a guest's memory to which the results of a call go. A call with one result uses the first alone, and
-/// one with none uses neither.
+/// The addresses in a guest's memory to which the results of a call go. A call with one result uses the first alone,
+/// and one with none uses neither.
 #[derive(Clone, Copy, Debug, PartialEq, Eq)]
 pub struct ResultAddresses {
     pub first: u32,
@@ -27,7 +27,7 @@ pub enum Shape {
     TwoU32,
     /// A number of 32 bits, aligned to 4, and at the other address one of 16 bits, aligned to 2.
     U32AndU16,
-    /// The record of a directory that the guest was given, 8 bytes, aligned to 4.
+    /// The record of a preopen, 8 bytes, aligned to 4.
     Prestat,
     /// The record of a descriptor, 24 bytes, aligned to 8.
     Fdstat,

@@ -115,7 +115,7 @@ impl<T: SandboxTree> Sandbox<T> {
     }
 
     /// The tree as it stands, in memory of its own, as a tree on which no step has worked. It has no live handle, no
-    /// node is touched, and there is no look-up. The sandbox stays, and so does the tree that it may stand over.
+    /// node is touched, and there is no lookup. The sandbox stays, and so does the tree that it may stand over.
     pub fn commit(&self, alloc: Global) -> Result<MemTree, AllocError>
         ensures { IfOk result (IsFreshOn (T.seen self.now.context.host.inner).tree) }
     {

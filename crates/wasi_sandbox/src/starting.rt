@@ -28,9 +28,9 @@ fn has_no_guest(session: &Session) -> bool
     session.calls.is_empty() && session.show.is_empty() && session.size == 0
 }
 
-/// A sandbox that stands as a script begins: over the tree of its nodes, with its preopens, all that its guest is handed
-/// in, its quotas, its table and its fuel, and with its faults to come. `docs/scripts.md` says what a script is; this one
-/// has no calls, no memory and nothing to be shown.
+/// A sandbox that stands as a script begins: over the tree of its nodes, with its preopens, all that its guest is
+/// handed in, its quotas, its table and its fuel, and with its faults to come. `docs/scripts.md` says what a script is;
+/// this one has no calls, no memory and nothing to be shown.
 pub fn start(alloc: Global, text: &[u8]) -> Result<Sandbox<MemTree>, StartError>
     ensures starts { StartsBy (λ m. m) text.now result }
 {
@@ -92,14 +92,14 @@ fn session_over(alloc: Global, base: &MemTree, text: &[u8]) -> Result<Session, S
 }
 
 /// A sandbox over a tree that stays: any number of sandboxes may stand over one, and none sees what another changes. It
-/// stands as `start` has one, with the nodes and the limits of the tree in the place of the script's. The script has no
-/// nodes, `[]`, and no limits but those of a script that doesn't say them; its preopens are directories of the tree. Its
-/// `commit` is a tree of what it came to, over which sandboxes may be begun again. (No clause says that the tree isn't
-/// copied: the code doesn't.)
+/// stands as `start` has one, with the nodes and the limits of the tree in place of the script's. The script has no
+/// nodes, `[]`, and no limits but those of a script that doesn't say them; its preopens are directories of the tree.
+/// Its `commit` is a tree of what it came to, over which sandboxes may be begun again. (No clause says that the tree
+/// isn't copied: the code doesn't.)
 ///
-/// Refusals, the first that holds: `Refused` of `Long`, `Json` or `Shape`, as of a script; `OwnTree` where the script has
-/// nodes or limits; `Refused(Limit)` where the rest isn't within the limits of a script, or a preopen isn't a directory of
-/// the tree; `Guest` as of `start`. `Memory` where memory was wanted.
+/// Refusals, the first that holds: `Refused` of `Long`, `Json` or `Shape`, as of a script; `OwnTree` where the script
+/// has nodes or limits; `Refused(Limit)` where the rest isn't within the limits of a script, or a preopen isn't a
+/// directory of the tree; `Guest` as of `start`. `Memory` if memory ran out.
 pub fn start_over<'a>(
     alloc: Global,
     base: &'a MemTree,

@@ -17,8 +17,8 @@ pub trait SandboxTree: ScriptTree {
         ensures text { IfOk result (λ text. text.items ≡ report_text (reported outcome.now (Self.seen self.now).tree.nodes)) }
         ensures ordered { OnOk result (IsOrdered (reported outcome.now (Self.seen self.now).tree.nodes)) };
 
-    /// The tree as it is, in memory of its own, as a tree on which no step has worked. It has no live handle, no node is
-    /// touched, and there is no look-up.
+    /// The tree as it is, in memory of its own, as a tree on which no step has worked. It has no live handle, no node
+    /// is touched, and there is no lookup.
     fn commit(&self, alloc: Global) -> Result<MemTree, AllocError>
         ensures { IfOk result (IsFreshOn (Self.seen self.now).tree) };
 }

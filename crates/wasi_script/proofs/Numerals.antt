@@ -12,7 +12,7 @@ use Rattle.wasi_script.specs.Words.{begins_a_number, is_number, number_after, nu
 own : IsNumeralModel (λ ds. list_all is_ascii_digit ds ≡ true) (number_after 0)
 own = numerals_by_fold _ (search rules) number_after (search rules)
 
--- digits behind a number make it no smaller
+-- digits after a number make it no smaller
 at_least : (n : ℕ) (ds : List ℕ) → n ≤ number_after n ds
 at_least n [] = omega arith
 at_least n (c ∷ cs) = omega (arith, at_least (10 * n + (c - 48)) cs)

@@ -39,7 +39,7 @@ use Rattle.wasi_script.specs.Through.{effect_of, IsShort, stems_behind, stemmed,
 
 -- ---- one turn more
 
--- what the numbers stem from behind all of these turns
+-- what the numbers stem from after all of these turns
 abbrev pub stems_over : Stems → List TraceStep → Stems
 stems_over stems [] = stems
 stems_over stems (t ∷ turns) = stems_over (stems_behind stems t) turns

@@ -155,7 +155,7 @@ writes_due {taken} {now} {status} task left d owed tells is was =
 
 -- ---- a script that was made
 
--- its line was written, or a front of it, or memory was wanted
+-- its line was written, or a front of it, or memory ran out
 pub ends_made : {modelled rose : Type 0} {taken now text : List ℕ} {status : Status}
     → Written modelled rose taken now text statuses.Done status → EndsGenerated status
 ends_made (whole took) = tt

@@ -17,7 +17,7 @@ use Rattle.wasi_form.specs.declared.script.Script.{Script}
 use Rattle.wasi_script.specs.declared.status.Status.{Status}
 use Rattle.wasi_script.specs.declared.status.Status.TheVariants as statuses
 
--- what reading leaves: nothing, or of bytes that are too many those behind the first one past the limit
+-- what reading leaves: nothing, or of bytes that are too many those after the first one past the limit
 unfoldable pub left_unread : List ℕ → List ℕ
 left_unread left = drop (most_script + 1) left
 
@@ -77,7 +77,7 @@ status_of (the_refusal refusal) = statuses.Refused refusal
 status_of (the_outcome wanted plan) = statuses.Done
 status_of (the_line n) = statuses.Done
 
--- a status that isn't one of a fault or of want of memory is the one that is due
+-- a status that isn't one of a fault or of out of memory is the one that is due
 abbrev pub IsDue : Status → Due → Type 0
 IsDue statuses.Done d = statuses.Done ≡ status_of d
 IsDue statuses.Usage d = statuses.Usage ≡ status_of d
@@ -86,7 +86,7 @@ IsDue statuses.ReadFault d = ⊤
 IsDue statuses.WriteFault d = ⊤
 IsDue statuses.NoMemory d = ⊤
 
--- This holds of what is due. After a fault of reading, or want of memory, the verdict may not have been found, and it
+-- This holds of what is due. After a fault of reading, or out of memory, the verdict may not have been found, and it
 -- holds whatever is due.
 abbrev pub OfDue : Status → Task → List ℕ → (Due → Type 0) → Type 0
 OfDue statuses.Done task left Holds = (d : Due) × IsOwed task left d × Holds d
@@ -151,7 +151,7 @@ LeavesBytes statuses.ReadFault left rest = ReadFront left rest
 LeavesBytes statuses.NoMemory left rest = ReadFront left rest
 LeavesBytes statuses.WriteFault left rest = rest ≡ left_unread left
 
--- after a fault of reading, or want of memory, the sink took nothing
+-- after a fault of reading, or out of memory, the sink took nothing
 abbrev pub KeepsSink : Status → List ℕ → List ℕ → Type 0
 KeepsSink statuses.ReadFault taken now = now ≡ taken
 KeepsSink statuses.NoMemory taken now = now ≡ taken
@@ -183,7 +183,7 @@ EndsGenerated statuses.Usage = ⊥
 EndsGenerated (statuses.Refused refusal) = ⊥
 EndsGenerated statuses.ReadFault = ⊥
 
--- reading that gave no script: a refusal was due; a fault and want of memory are free
+-- reading that gave no script: a refusal was due; a fault and out of memory are free
 abbrev pub NotRead : Status → List ℕ → List ℕ → Type 0
 NotRead (statuses.Refused refusal) left rest = IsVerdict left (Err refusal) × (rest ≡ left_unread left)
 NotRead statuses.ReadFault left rest = ReadFront left rest
@@ -197,7 +197,7 @@ abbrev pub ReadsScript : Result Script Status → List ℕ → List ℕ → Type
 ReadsScript (Ok script) left rest = IsVerdict left (Ok (plan script)) × (rest ≡ left_unread left)
 ReadsScript (Err status) left rest = NotRead status left rest
 
--- some bytes are refused so; a fault and want of memory are free
+-- some bytes are refused so; a fault and out of memory are free
 abbrev pub RefusesSome : Status → Type 0
 RefusesSome (statuses.Refused refusal) = (left : List ℕ) × IsVerdict left (Err refusal)
 RefusesSome statuses.ReadFault = ⊤

@@ -62,7 +62,7 @@ MayNotBeAltered plan n =
 abbrev pub names_told : List (List ℕ × ℕ) → Names
 names_told entries = maps.from_entries entries
 
--- a content that is told has what another had: a file its bytes, and maybe more behind them; a directory each name, which
+-- a content that is told has what another had: a file its bytes, and maybe more after them; a directory each name, which
 -- holds the node that it held; a link its text
 abbrev pub TellsStill : ContentData → ContentData → Type 0
 TellsStill (file bytes) now = (more : List ℕ) × (now ≡ file (bytes ++ more))

@@ -16,7 +16,7 @@ begins_a_number (c ∷ cs) = nat_le 49 c && nat_le c 57
 unfoldable pub is_number : List ℕ → Bool
 is_number word = begins_a_number word && nat_le (length word) 4 && list_all is_ascii_digit word
 
--- the number that decimal digits write behind those of n
+-- the number that decimal digits write after those of n
 abbrev pub number_after : ℕ → List ℕ → ℕ
 number_after n [] = n
 number_after n (c ∷ cs) = number_after (10 * n + (c - 48)) cs

@@ -24,7 +24,7 @@ use wasi_report::{PreopenNodes, audit_in};
 use wasi_setup::{Setup, begin};
 use wasi_tree::MemTree;
 
-/// The audit of a script whose calls were made, and the names of the directories that the guest was given, in order.
+/// The audit of a script whose calls were made, and the names of the preopens, in order.
 #[derive(Drop)]
 pub struct ScriptAudit {
     pub names: Vec<String>,
@@ -59,7 +59,7 @@ fn effect_of(call: Call, answer: Answer) -> AuditEffect
     }
 }
 
-// Makes a call, and notes what it touched. No answer where memory was wanted.
+// Makes a call, and notes what it touched. No answer if memory ran out.
 fn audited_call(
     alloc: Global,
     context: &mut WasiP1Ctx<FailAt<MemTree>>,

@@ -18,7 +18,7 @@ pub enum Status {
     ReadFault,
     /// The sink failed, or took nothing of a piece. It took a front of what was to be written.
     WriteFault,
-    /// Memory was wanted, and nothing was written.
+    /// Memory ran out, and nothing was written.
     NoMemory,
 }
 
@@ -38,8 +38,8 @@ impl Status {
         }
     }
 
-    /// One line for a person, without its end: what happened, and of a script that can't be run where to read more. `None`
-    /// where a report, an audit, a trial, a line or the usage line was written.
+    /// One line for a person, without its end: what happened, and of a script that can't be run where to read more.
+    /// `None` where a report, an audit, a trial, a line or the usage line was written.
     pub fn message(self) -> Option<&'static str>
         ensures text { option_map (λ text. text.now) result ≡ message_of self }
         ensures silent { IsNone result ↔ ((self ≡ Status.Done) ⊎ (self ≡ Status.Usage)) }

@@ -10,7 +10,7 @@ ghost use Rattle.wasi_script.specs.Words as specs;
 pub enum ScriptTask {
     /// `run`: its report.
     Run,
-    /// `audit`: which nodes were touched through which of the directories that the guest was given.
+    /// `audit`: which nodes were touched through which of the preopens.
     Audit,
     /// `trial`: the tree as it was before, the nodes that were worked on, and the report.
     Trial,

@@ -36,7 +36,7 @@ fn new_path(alloc: Global, i: u64) -> Result<String, AllocError>
     format!(in alloc; "n{i}")
 }
 
-// Puts the calls at the i-th link, and the texts of their paths, behind those before them.
+// Puts the calls at the i-th link, and the texts of their paths, after those before them.
 fn push_turn(alloc: Global, turns: &mut Turns, i: u64) -> Result<(), AllocError>
     requires { i < 9999 }
     ensures pieces { OnOk result (map planned_piece turns.new.pieces.items

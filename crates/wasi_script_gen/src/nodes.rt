@@ -87,7 +87,7 @@ fn content(alloc: Global, n: u64, kind: Kind, i: u64) -> Result<NewContent, Allo
     }
 }
 
-// Puts all nodes of a kind behind others.
+// Puts all nodes of a kind after others.
 fn push_all(alloc: Global, nodes: &mut Vec<NewNode>, n: u64, kind: Kind) -> Result<(), AllocError>
     requires { n < 10000 }
     ensures { OnOk result (map node_data nodes.new.items ≡ map node_data nodes.old.items ++ nodes_of_kind n kind) }

@@ -1,4 +1,4 @@
-//! The script.
+//! The whole script of `gen n`.
 ghost use Rattle.std.specs.Prelude.{◌≡◌, ◌<◌, ◌≤◌, true, IfOk, map};
 ghost use Rattle.wasi_form.specs.Plan.{plan, planned_preopen};
 ghost use Rattle.wasi_form.specs.Within.{is_within_limits};
@@ -13,7 +13,7 @@ use wasi_form::{DEFAULT_FUEL, DEFAULT_LIMITS, DEFAULT_TABLE, Script, ScriptPreop
 use wasi_fs::FsPerms;
 use wasi_guest::{Quota, Services, WallDatetime};
 
-// The one directory that the guest is given: node 0, which may be changed.
+// The one preopen: node 0, read-write.
 fn preopens(alloc: Global) -> Result<Vec<ScriptPreopen>, AllocError>
     ensures { IfOk result (λ all. map planned_preopen all.items ≡ specs.gen_preopens) }
 {
@@ -26,7 +26,7 @@ fn preopens(alloc: Global) -> Result<Vec<ScriptPreopen>, AllocError>
     Ok(all)
 }
 
-// What a guest is handed in whose script says nothing of it.
+// The guest environment of a script that sets none of it.
 fn services(alloc: Global) -> Services
     ensures { handed result ≡ specs.gen_services }
 {
@@ -48,14 +48,16 @@ fn services(alloc: Global) -> Services
     }
 }
 
-/// The script of `gen n`, for a number n from 1 to 9,999.
+/// The script of `gen n`, for a number n from 1 to 9,999: a test of growing size, whose report is known.
 ///
-/// Node 0 is a directory with the names `d0` to `d(n-1)`. In each of them, `di`, are a file `f`, which has the decimal
-/// digits of i, and a link `up` to the file of the next one, and in the last to that of the first: its text is `../dj/f`,
-/// j being (i + 1) mod n. The guest is given node 0 as `/`, to be changed, and for each i opens `di/up`, following the
-/// link, reads up to 16 bytes of what it opened, closes it, and makes the directory `ni`. Its memory has 1024 + 32n bytes.
+/// Node 0 is a directory with the names `d0` to `d(n-1)`. Each of them, `di`, has two entries. The file `f` has the
+/// decimal digits of i. The link `up` has the text `../dj/f`, with j = (i + 1) mod n, so it leads to the next
+/// directory's file.
 ///
-/// `AllocError` is want of memory alone. The script is within the limits of scripts.
+/// The guest has the read-write preopen `/`, which is node 0. For each i it opens `di/up`, following the link, reads up
+/// to 16 bytes, closes the file, and makes the directory `ni`. Its memory has 1024 + 32n bytes.
+///
+/// `AllocError` means out of memory, and nothing else. The script is within the limits of scripts.
 pub fn gen_script(alloc: Global, n: u64) -> Result<Script, AllocError>
     requires some { 1 ≤ n }
     requires few { n < 10000 }

@@ -78,7 +78,7 @@ apart_from worked not_worked is here = true≢false (sym is ∙ ap (contains wor
 
 -- ---- changes of nodes
 
--- a node in the place of another, which is worked on
+-- a node in place of another, which is worked on
 put_over : (t : Tree) (n : ℕ) (node : Node) {worked : Nodes} → contains worked n ≡ true
     → ((k : ℕ) → contains t.worked k ≡ true → contains worked k ≡ true) → IsMergedTree t (changed t n node worked)
 unfolding node_at
@@ -91,7 +91,7 @@ put_over t n node {worked} is still = record {
   still = still;
 }
 
--- an item behind a list is at its end
+-- an item after a list is at its end
 push_other : {X : Type 0} (xs : List X) (n : ℕ) (x d : X) → n ≢ length xs
     → slice_index_or (xs ++ x ∷ []) n d ≡ slice_index_or xs n d
 push_other xs n x d other = elim (cases_lt n (length xs)) [

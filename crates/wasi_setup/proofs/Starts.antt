@@ -102,7 +102,7 @@ slots_again old new place (p ∷ ps) lives same =
     (same p.handle (All-head (IsLiveIn old) p ps lives)) in
     λ i. here i ∷ slots_again old new (suc place) ps (All-tail (IsLiveIn old) p ps lives) same i
 
--- one more stands behind them
+-- one more stands after them
 slots_more : (holds : ℕ → OpenHandle) (planned : PlannedPreopen) (p : P1Preopen) (place : ℕ) (preopens : List PlannedPreopen)
     (given : List P1Preopen)
     → map (guest_slot holds) (preopen_slots place given) ≡ preopen_guest_slots place preopens

@@ -68,7 +68,7 @@ abbrev pub start : Plan → State
 start plan = begun (tree_of plan.nodes plan.limits) plan.preopens plan.services plan.quota plan.table
     (with_pieces (replicate plan.size 0) plan.pieces)
 
--- the model of a tree in memory behind calls that fail
+-- the model of a tree in memory after calls that fail
 abbrev pub model_behind : Failing MemState → HostModel
 model_behind host = model_of host.inner
 

@@ -15,7 +15,7 @@ use wasi_tree::{HandleError, MemTree};
 /// A tree of files that a script may be run over: a host that gives handles of its directories and lists what was
 /// touched.
 pub trait ScriptTree: Host + Drop {
-    /// What contracts see of it: its tree, its handles, the touched nodes and the look-ups.
+    /// What contracts see of it: its tree, its handles, the touched nodes and the lookups.
     ghost seen: { Self → MemState };
 
     /// A handle of a directory, for its path alone. `NotDirectory` where the node isn't one; `Memory` where memory was
@@ -34,7 +34,7 @@ pub trait ScriptTree: Host + Drop {
         ensures lookups { (seen self.new).lookups ≡ (seen self.old).lookups }
         ensures err { OnErr result (seen self.new ≡ seen self.old) };
 
-    /// The numbers of the touched nodes, rising. The only `Err` is want of memory.
+    /// The numbers of the touched nodes, rising. The only `Err` is out of memory.
     fn touched_nodes(&self, alloc: Global) -> Result<Vec<u64>, AllocError>
         ensures nodes { IfOk result (λ nodes. from_list nodes.items ≡ (seen self.now).touched) }
         ensures rising { IfOk result (λ nodes. IsStrictlySortedBy nat_cmp nodes.items) };

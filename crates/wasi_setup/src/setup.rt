@@ -65,9 +65,9 @@ fn preopen_handles<T: ScriptTree>(
     Ok(given)
 }
 
-/// A context over a tree that has no live handle, nothing touched and no look-up, in which the guest is handed in these
-/// services and given these directories and this quota, as many descriptors may be live as its table has room for, and these
-/// calls of the host fail. The only refusal is want of memory.
+/// A context over a tree that has no live handle, nothing touched and no lookup, in which the guest is handed in these
+/// services and given these directories and this quota, as many descriptors may be live as its table has room for, and
+/// these calls of the host fail. The only refusal is out of memory.
 pub fn first_context<T: ScriptTree>(
     alloc: Global,
     mut tree: T,
@@ -103,8 +103,8 @@ pub fn first_context<T: ScriptTree>(
     }
 }
 
-/// A memory of this size in bytes, of zeros, that has the pieces written into it, one after another. The only refusal is
-/// want of memory.
+/// A memory of this size in bytes, of zeros, that has the pieces written into it, one after another. The only refusal
+/// is out of memory.
 pub fn first_memory(alloc: Global, size: u32, pieces: &[Piece]) -> Result<GuestMemory, AllocError>
     requires { list_all (is_piece_within size) (map planned_piece pieces.now) ≡ true }
     ensures written { IfOk result (λ memory. memory ≡ with_pieces (replicate size 0) (map planned_piece pieces.now)) }
@@ -117,8 +117,8 @@ pub fn first_memory(alloc: Global, size: u32, pieces: &[Piece]) -> Result<GuestM
     Ok(memory)
 }
 
-/// Begins what is run on a tree that has no live handle, nothing touched and no look-up: the pieces of the memory are
-/// written, and the directories that the guest is given have handles. The only refusal is want of memory.
+/// Begins what is run on a tree that has no live handle, nothing touched and no lookup: the pieces of the memory are
+/// written, and the directories that the guest is given have handles. The only refusal is out of memory.
 pub fn begin_over<T: ScriptTree>(
     alloc: Global,
     tree: T,
@@ -151,7 +151,7 @@ pub fn begin_over<T: ScriptTree>(
     })
 }
 
-/// Begins a script over a tree in memory of its nodes. The only refusal is want of memory.
+/// Begins a script over a tree in memory of its nodes. The only refusal is out of memory.
 pub fn begin(alloc: Global, script: Script) -> Result<Setup<MemTree>, AllocError>
     requires { CanRun script }
     ensures begins { IfOk result (Begins (tree_of script.nodes.nodes script.nodes.limits) script.session (λ m. m)) }

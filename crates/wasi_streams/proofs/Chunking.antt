@@ -17,7 +17,7 @@ use Rattle.wasi_streams.specs.declared.errors.StreamError.TheVariants as errors
 drop_front : (front more : List ℕ) → drop (length front) (front ++ more) ≡ more
 drop_front front more = grind (arith, common_steps)
 
--- behind a front of what comes next comes the rest of it
+-- after a front of what comes next comes the rest of it
 behind : (bytes : List ℕ) (p : ℕ) (front more : List ℕ) → drop p bytes ≡ front ++ more → drop (p + length front) bytes ≡ more
 behind bytes p front more is = sym (drop-drop (length front) p bytes) ∙ ap (drop (length front)) is ∙ drop_front front more
 
@@ -47,7 +47,7 @@ follows P reads stays (read_then size next) all kept (Err (errors.LastOperationF
 follows P reads stays (read_then size next) all kept (Err (errors.Trap trap)) new (reply, from, is) = gave P (next reply) _ new is (all reply from)
 
 module _ (bytes : List ℕ) (p : ℕ) where
-  -- an answer gives the next bytes, and what is left comes behind them
+  -- an answer gives the next bytes, and what is left comes after them
   Continues : Result (List ℕ) StreamError → ReadState → Type 0
   Continues result new = IsPrefix (bytes_given result) (drop p bytes) × IsNext bytes (p + length (bytes_given result)) new
 

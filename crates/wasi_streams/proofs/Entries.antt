@@ -144,7 +144,7 @@ free_popped slots last (n ∷ free) (is, apart, are) =
     let others = apart_from_last n last free apart in
     (rest.0, ((λ same. others.1 (sym same)), rest.1), (is, others.0, rest.2))
 
--- and another comes behind them
+-- and another comes after them
 free_pushed : (slots : List (Option Entry)) (last : ℕ) (free : List ℕ) → AreFree slots free → IsFree slots last
     → IsApart last free → AreFree slots (free ++ last ∷ [])
 free_pushed slots last [] are is apart = (is, tt, tt)

@@ -30,7 +30,7 @@ told_then (Waiting rest) s is = not_refused errors.Memory _ _ is
 told_then (Error code) s is = ap flush_spec (same_left (Error code) s is)
 told_then Closed s is = ap flush_spec (same_left Closed s is)
 
--- memory was wanted for a write
+-- memory ran out for a write
 failed_then : (left s : OutputState) → ◌≡◌ {A = Said} (Err errors.Memory, s) (write_made left)
     → ◌≡◌ {A = Said} (Err errors.Memory, s) (flushed left)
 failed_then Ready s is = not_refused errors.Memory _ _ (sym is)
@@ -46,7 +46,7 @@ goes_on (Error code) s t is tells = not_refused (errors.LastOperationFailed code
 goes_on Closed s t is tells = not_refused errors.Closed _ _ (tells ∙ ap flush_spec (same_left Closed s is))
 
 module _ (modelled : Bool) (file : ℕ) (old : HostSeen) (mode : FileOutputMode) (piece : List ℕ) where
-  -- memory was wanted for what waited
+  -- memory ran out for what waited
   pub first_failed : (s : OutputState) (new : HostSeen) (end : FileOutputMode) (state : OutputState)
       → FollowsWrite {A = Unit {0}} modelled file old mode (ready_write_spec s) (Err errors.Memory) new end state
       → FollowsWrite {A = Unit {0}} modelled file old mode (blocking_write_spec s piece) (Err errors.Memory) new end state
@@ -97,7 +97,7 @@ module _ (modelled : Bool) (file : ℕ) (old : HostSeen) (mode : FileOutputMode)
   ready_is (Error code) mid at s1 t f tells = goes_on (Error code) s1 t f.2 tells
   ready_is Closed mid at s1 t f tells = goes_on Closed s1 t f.2 tells
 
-  -- memory was wanted for the piece
+  -- memory ran out for the piece
   pub then_failed : (s : OutputState) (mid : HostSeen) (at : FileOutputMode) (s1 t : OutputState) (new : HostSeen) (end : FileOutputMode) (state : OutputState)
       → FollowsWrite {A = Unit {0}} modelled file old mode (ready_write_spec s) (Ok tt) mid at s1
       → ◌≡◌ {A = Said} (Ok tt, t) (flush_spec s1)

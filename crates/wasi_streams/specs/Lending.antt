@@ -19,11 +19,11 @@ use Rattle.wasi_streams.specs.declared.errors.TableError.{TableError}
 abbrev pub with_entry_at : Table → ℕ → Entry → Table
 with_entry_at t n e = record t { entries = maps.insert t.entries n e }
 
--- the table ends with the last entry behind the reference under its number
+-- the table ends with the last entry after the reference under its number
 abbrev pub LendsAt : MutBor Table → ℕ → MutBor Entry → Fml
 LendsAt t n r = Lends the_row entry.the_row t r (with_entry_at t.now n)
 
--- the table ends with the last entry behind the reference under its number; as it was where there is none
+-- the table ends with the last entry after the reference under its number; as it was where there is none
 abbrev pub LendsEntry : MutBor Table → ℕ → Result (MutBor Entry) TableError → Fml
 LendsEntry t n r = LendsIfOk the_row entry.the_row t r (with_entry_at t.now n) t.now
 

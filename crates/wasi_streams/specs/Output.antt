@@ -52,7 +52,7 @@ stands_after taken all =
     else if taken == 0 then Some (Error Io)
     else None
 
--- a write is over, but for what memory was wanted for
+-- a write is over, but for what memory ran out for
 abbrev pub write_made : OutputState → OutputAnswer (Unit {0})
 write_made Ready = (Ok tt, Ready)
 write_made (Waiting rest) = (Err errors.Memory, Waiting rest)

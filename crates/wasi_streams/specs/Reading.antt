@@ -9,7 +9,7 @@ use Rattle.wasi_streams.specs.declared.input.ReadState.{ReadState}
 use Rattle.wasi_streams.specs.declared.errors.StreamError.{StreamError}
 use Rattle.wasi_streams.specs.declared.errors.StreamError.TheVariants.{Memory}
 
--- what a host says of itself: its count of faults, its live handles, its look-ups, and its model
+-- what a host says of itself: its count of faults, its live handles, its lookups, and its model
 pub record HostSeen : Type 0 where
   pub faults : FaultCount
   pub live : Handles
@@ -30,7 +30,7 @@ pub record HasRead (modelled : Bool) (old new : HostSeen) (file position size : 
   pub meaning : IsTrue modelled → RefinesCall old.live new.live old.model new.model
       (Pread (old.model.held file) position (min size 65536)) (λ bytes. bytes) (hosted reply)
 
--- the answer and what is left are these; or memory was wanted, and this is left
+-- the answer and what is left are these; or memory ran out, and this is left
 abbrev pub GivesAs : {A : Type 0} → InputAnswer A → ReadState → Result A StreamError → ReadState → Type 0
 GivesAs given stays (Ok a) new = (Ok a, new) ≡ given
 GivesAs given stays (Err Memory) new = new ≡ stays
@@ -45,7 +45,7 @@ FollowsRead quiet reads stays (read_then size next) (Err Memory) new =
     (quiet ⊎ ((reply : ReadReply) × reads size reply)) × (new ≡ stays)
 FollowsRead quiet reads stays (read_then size next) (Err e) new = (reply : ReadReply) × reads size reply × ((Err e, new) ≡ next reply)
 
--- the answer of a call that is only refused for want of memory
+-- the answer of a call that is only refused for out of memory
 abbrev pub ready_of : Result (Unit {0}) AllocError → Result (Unit {0}) StreamError
 ready_of (Ok unit) = Ok tt
 ready_of (Err e) = Err Memory

@@ -23,7 +23,7 @@ abbrev pub IsInside : FileOutputMode → Type 0
 IsInside (Position offset) = offset < 2 ^ 63
 IsInside Append = Unit {0}
 
--- a modelled host put the bytes at the offset, or behind the file's last one
+-- a modelled host put the bytes at the offset, or after the file's last one
 abbrev pub PutTold : HostSeen → HostSeen → ℕ → FileOutputMode → List ℕ → Result ℕ HostError → Type 0
 PutTold old new file (Position offset) piece reply =
     RefinesCall old.live new.live old.model new.model (calls.Pwrite (old.model.held file) offset piece) (λ n. n) reply
@@ -46,7 +46,7 @@ stopped (Code code) rest = Error code
 stopped Wanted rest = Waiting rest
 
 -- A piece is written: the host is asked at least once, and until all is taken. Then come the host as it is left, where
--- the byte behind what was taken goes, and how the stream's write stands.
+-- the byte after what was taken goes, and how the stream's write stands.
 pub data WritesAll (modelled : Bool) (file : ℕ) : HostSeen → FileOutputMode → List ℕ → HostSeen → FileOutputMode → OutputState → Type 0 where
   -- all that was left is taken
   all_of_it : {old new : HostSeen} {mode : FileOutputMode} {piece : List ℕ} {n : ℕ}
@@ -61,7 +61,7 @@ pub data WritesAll (modelled : Bool) (file : ℕ) : HostSeen → FileOutputMode 
   stuck : {old new : HostSeen} {mode : FileOutputMode} {piece : List ℕ}
       → Puts modelled file old new mode piece (Ok 0) → 0 < length piece
       → WritesAll modelled file old mode piece new mode (Error Io)
-  -- a refusal, or want of memory
+  -- a refusal, or out of memory
   failed : {old new : HostSeen} {mode : FileOutputMode} {piece : List ℕ} {error : HostError}
       → Puts modelled file old new mode piece (Err error)
       → WritesAll modelled file old mode piece new mode (stopped error piece)

@@ -79,7 +79,7 @@ impl OutputState {
         }
     }
 
-    /// Whether a write was made, but for want of memory.
+    /// Whether a write was made, unless memory ran out.
     fn made(&self) -> Result<(), AllocError>
         ensures { (ready_of result, self.now) ≡ write_made self.now }
     {
@@ -108,9 +108,9 @@ impl OutputState {
     }
 }
 
-/// A stream of bytes into a file, from an offset on or behind its last byte: the crate's `FileOutputStream`. Contracts see
-/// the handle that it writes to, where its next byte goes, and how its write stands. Let go, it leaves its handle live:
-/// `close` closes it.
+/// A stream of bytes into a file, from an offset on or after its last byte: the crate's `FileOutputStream`. Contracts
+/// see the handle that it writes to, where its next byte goes, and how its write stands. Let go, it leaves its handle
+/// live: `close` closes it.
 #[derive(Drop)]
 pub struct FileOutputStream {
     file: Handle,
@@ -144,7 +144,7 @@ fn put<H: Host>(
     }
 }
 
-/// Writes a piece into a file: the host is asked at least once, and until all is taken. It gives where the byte behind
+/// Writes a piece into a file: the host is asked at least once, and until all is taken. It gives where the byte after
 /// what was taken goes, and how the write stands.
 fn write_all<H: Host>(
     host: &mut H,
@@ -174,8 +174,8 @@ fn write_all<H: Host>(
 }
 
 impl FileOutputStream {
-    /// A stream from an offset on, over a handle of its own of the same file: the crate's `write_at`. A write that waits
-    /// takes no memory of its own, so the allocator isn't used.
+    /// A stream from an offset on, over a handle of its own of the same file: the crate's `write_at`. A write that
+    /// waits takes no memory of its own, so the allocator isn't used.
     pub fn write_at<H: Host>(
         _alloc: Global,
         host: &mut H,
@@ -195,7 +195,7 @@ impl FileOutputStream {
         FileOutputStream::over(host, file, FileOutputMode::Position(position))
     }
 
-    /// The same behind the file's last byte, wherever that is at each write: the crate's `append`.
+    /// The same after the file's last byte, wherever that is at each write: the crate's `append`.
     pub fn append<H: Host>(
         _alloc: Global,
         host: &mut H,

@@ -19,7 +19,7 @@ pub struct Resource {
 /// The table of a guest's resources: the crate's `ResourceTable`. Contracts see a finite map from the numbers of the
 /// live entries to these, how many more entries are sure to find room, and how many entries there may be.
 ///
-/// What stands under each number is a list, and the numbers that are free are a stack, whose room is taken as numbers are
+/// What each number refers to is a list, and the numbers that are free are a stack, whose room is taken as numbers are
 /// first given, so that to free one takes no memory.
 #[derive(Drop)]
 pub struct ResourceTable {
@@ -139,8 +139,8 @@ impl ResourceTable {
         }
     }
 
-    /// Adds an entry under a number that isn't live; Full exactly where there may not be one more. A refusal gives the entry
-    /// back.
+    /// Adds an entry under a number that isn't live; Full exactly where there may not be one more. A refusal gives the
+    /// entry back.
     pub fn push(&mut self, entry: Entry) -> Result<Resource, TableRefused>
         ensures fresh { IfOk result (λ resource. get self.old.entries resource.number ≡ None) }
         ensures entries { IfOk result (λ resource. self.new.entries ≡ insert self.old.entries resource.number entry) }
@@ -226,8 +226,8 @@ impl ResourceTable {
         }
     }
 
-    /// Takes the entry of a number out, which isn't live from then on; NotPresent exactly where it has none. There is room
-    /// for one entry more then. It takes no memory.
+    /// Takes the entry of a number out, which isn't live from then on; NotPresent exactly where it has none. There is
+    /// room for one entry more then. It takes no memory.
     pub fn delete(&mut self, resource: Resource) -> Result<Entry, TableError>
         ensures found { result ≡ entry_found (get self.old.entries resource.number) }
         ensures entries { OnOk result (self.new.entries ≡ remove self.old.entries resource.number) }

@@ -1,4 +1,4 @@
--- The rules for a node that would come below itself, or in the place of a directory above it.
+-- The rules for a node that would come below itself, or in place of a directory above it.
 use Rattle.std.proofs.Common.{◌≡◌, ℕ, Bool, true, false, ◌&&◌, [], ◌∷◌, Option, Some, None, ap, ◌∙◌}
 use Rattle.wasi_host.specs.Below.{is_below}
 use Rattle.wasi_host.specs.Tree.{Tree, node_at, is_directory}

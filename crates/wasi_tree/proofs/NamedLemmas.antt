@@ -86,7 +86,7 @@ named-push m k [] node = let e : k ≡ k + 0 = omega arith in ap (λ j. with_nam
 named-push m k (n ∷ nodes) node = ap (λ ns. with_names (names_at m k) n ∷ ns) (named-push m (k + 1) nodes node
     ∙ ap (λ j. named_from m (k + 1) nodes ++ with_names (names_at m j) node ∷ []) (next k (length nodes)))
 
--- names of a directory behind these nodes are no matter
+-- names of a directory after these nodes are no matter
 pub named-others : {m n : AllNames} {d : ℕ} → OtherNamesStay d m n → (k : ℕ) (nodes : List Node) → k + length nodes ≤ d
     → named_from n k nodes ≡ named_from m k nodes
 named-others others k [] before = refl

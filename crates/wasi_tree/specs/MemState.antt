@@ -17,7 +17,7 @@ use Rattle.wasi_host.specs.declared.lookup.Lookup.{Lookup}
 abbrev pub HeldMap : Type 0
 HeldMap = maps.FinMap nat_cmp OpenHandle
 
--- the tree, the live handles, the touched nodes, and the look-ups so far
+-- the tree, the live handles, the touched nodes, and the lookups so far
 pub record MemState : Type 0 where
   pub tree : Tree
   pub handles : HeldMap

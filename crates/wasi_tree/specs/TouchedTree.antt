@@ -1,4 +1,4 @@
--- A tree with its touched nodes, and what a call does to it. Nothing fails here but for want of memory.
+-- A tree with its touched nodes, and what a call does to it. Nothing fails here but for out of memory.
 use Rattle.std.specs.Prelude.{◌≡◌, ◌⊎◌, ℕ, ◌++◌, List, Option, Result, Ok, Err, refl}
 use Rattle.std.specs.FinSet.{insert}
 use Rattle.std.specs.Coded.{Coded, code_by, coded×, coded_ℕ, coded_list, coded_option}
@@ -54,7 +54,7 @@ abbrev pub MeansCode : {B : Type 0} → Result B ErrorCode → HostError → Typ
 MeansCode meant Memory = Unit {0}
 MeansCode meant (Code code) = meant ≡ Err code
 
--- the nodes that a call comes to are touched, or where memory was wanted maybe none
+-- the nodes that a call comes to are touched, or where memory ran out maybe none
 abbrev pub TouchedErr : Nodes → Nodes → List ℕ → HostError → Type 0
 TouchedErr old new found Memory = (new ≡ old) ⊎ (new ≡ with_nodes old found)
 TouchedErr old new found (Code code) = new ≡ with_nodes old found

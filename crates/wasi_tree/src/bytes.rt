@@ -72,7 +72,7 @@ pub fn put_at<S: NodeStore>(
     Ok(piece.len())
 }
 
-/// Puts a piece of bytes behind a file's last one, and answers how many: all.
+/// Puts a piece of bytes after a file's last one, and answers how many: all.
 #[tactic(auto, unfolding(wasi_host::specs::Refusal::refusal))]
 pub fn put_behind<S: NodeStore>(
     store: &mut S,
@@ -102,7 +102,7 @@ pub fn put_behind<S: NodeStore>(
     Ok(piece.len())
 }
 
-/// Writes a piece of bytes into a file from an offset on; no bytes change nothing. Where memory is wanted, nothing has
+/// Writes a piece of bytes into a file from an offset on; no bytes change nothing. If memory runs out, nothing has
 /// changed.
 #[tactic(auto, using(crate::proofs::StoreLemmas::write_none, crate::proofs::StoreLemmas::write_some))]
 fn write<S: NodeStore>(
@@ -126,7 +126,7 @@ fn write<S: NodeStore>(
     store.put(node, offset, piece)
 }
 
-/// Cuts a file to so many bytes, or fills it up to them with zeros.
+/// Cuts a file to a size, or fills it up with zeros.
 #[tactic(auto, unfolding(wasi_host::specs::Refusal::refusal))]
 pub fn put_size<S: NodeStore>(store: &mut S, file: OpenHandle, size: u64) -> Result<(), HostError>
     requires within { file.node < next_of (S.seen store.old).tree }

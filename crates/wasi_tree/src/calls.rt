@@ -46,7 +46,7 @@ fn hold_found<S: NodeStore>(store: &mut S, found: Option<u64>) -> Result<(), All
     }
 }
 
-/// Touches the directory of a look-up, and the node that it found.
+/// Touches the directory of a lookup, and the node that it found.
 fn touch_found<S: NodeStore>(store: &mut S, directory: u64, found: Option<u64>)
     requires within { directory < next_of (S.seen store.old).tree }
     requires at { S.HasRoom store.old directory }
@@ -120,7 +120,7 @@ fn find_both<'n, 'm, S: NodeStore>(
     Ok((from, to))
 }
 
-/// Opens a name in a directory, and gives what its handle stands for. Its node has room from then on.
+/// Opens a name in a directory, and gives what its handle refers to. Its node has room from then on.
 pub fn open_at<S: NodeStore>(
     store: &mut S,
     directory: u64,
@@ -484,7 +484,7 @@ pub fn write_at<S: NodeStore>(
     put_at(store, file, piece, offset)
 }
 
-/// Puts a piece of bytes behind a file's last one, and answers how many: all.
+/// Puts a piece of bytes after a file's last one, and answers how many: all.
 pub fn append<S: NodeStore>(
     store: &mut S,
     file: OpenHandle,
@@ -501,7 +501,7 @@ pub fn append<S: NodeStore>(
     put_behind(store, file, piece)
 }
 
-/// Cuts a file to so many bytes, or fills it up to them with zeros.
+/// Cuts a file to a size, or fills it up with zeros.
 pub fn set_size<S: NodeStore>(store: &mut S, file: OpenHandle, size: u64) -> Result<(), HostError>
     requires within { file.node < next_of (S.seen store.old).tree }
     requires at { S.HasRoom store.old file.node }

@@ -10,7 +10,7 @@ use std::alloc::AllocError;
 pub enum TreeError {
     /// This number breaks the rules of `MemTree::new`, and none below it does.
     Invalid(u64),
-    /// Memory was wanted.
+    /// Memory ran out.
     Memory,
 }
 
@@ -27,7 +27,7 @@ impl From<AllocError> for TreeError {
 pub enum HandleError {
     /// The number is no directory's.
     NotDirectory,
-    /// Memory was wanted.
+    /// Memory ran out.
     Memory,
 }
 

@@ -221,7 +221,7 @@ impl InodeContent {
     }
 
     /// Puts a piece of bytes into a file from an offset on, with zeros in a gap before it. What is no file stays. Where
-    /// memory is wanted, nothing has changed.
+    /// memory runs out, nothing has changed.
     pub fn put(&mut self, offset: usize, piece: &[u8]) -> Result<(), AllocError>
         requires { offset + length piece.now ≤ largest_file }
         ensures put { OnOk result
@@ -235,7 +235,7 @@ impl InodeContent {
         }
     }
 
-    /// Cuts a file to so many bytes, or fills it up to them with zeros. What is no file stays. Where memory is wanted,
+    /// Cuts a file to a size, or fills it up with zeros. What is no file stays. If memory runs out,
     /// nothing has changed.
     pub fn resize(&mut self, size: usize) -> Result<(), AllocError>
         ensures sized { OnOk result (stored_content self.new ≡ other_bytes (with_size size) (stored_content self.old)) }
@@ -413,7 +413,7 @@ fn new_entries(alloc: Global, mut names: EntryCursor<'_>) -> Result<Vec<NewEntry
 }
 
 /// Puts a piece into bytes from an offset on, with zeros in a gap before it. A piece that runs past the end is copied
-/// once, into room that grows by doubling. Where memory is wanted, the bytes are as they were.
+/// once, into room that grows by doubling. If memory runs out, the bytes are as they were.
 pub fn put_piece(bytes: &mut Vec<u8>, offset: usize, piece: &[u8]) -> Result<(), AllocError>
     requires { offset + length piece.now ≤ largest_file }
     ensures put { OnOk result (bytes.new.items ≡ with_piece bytes.old.items offset piece.now) }
@@ -430,7 +430,7 @@ pub fn put_piece(bytes: &mut Vec<u8>, offset: usize, piece: &[u8]) -> Result<(),
 }
 
 /// Cuts bytes to a size, and keeps their room, or fills them up to it with zeros, in room that grows by doubling. Where
-/// memory is wanted, the bytes are as they were.
+/// memory runs out, the bytes are as they were.
 #[tactic(auto, unfolding(wasi_host::specs::Step::with_size))]
 pub fn resize_bytes(bytes: &mut Vec<u8>, size: usize) -> Result<(), AllocError>
     ensures sized { OnOk result (bytes.new.items ≡ with_size size bytes.old.items) }

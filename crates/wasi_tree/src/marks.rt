@@ -76,7 +76,7 @@ impl Marks {
         self.rounds[node as usize] = self.round;
     }
 
-    /// Marks the directory of a look-up, and the node that it found.
+    /// Marks the directory of a lookup, and the node that it found.
     pub fn mark_found(&mut self, directory: u64, found: Option<u64>)
         requires directory { directory < self.old.count }
         requires found { IfSome found (λ n. n < self.old.count) }

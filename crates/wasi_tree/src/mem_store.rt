@@ -237,7 +237,7 @@ impl NodeStore for MemStore {
         self.touched.list(alloc)
     }
 
-    /// All room is taken first, so that nothing has changed where memory is wanted.
+    /// All room is taken first, so that nothing has changed if memory runs out.
     fn make_node(
         &mut self,
         directory: u64,

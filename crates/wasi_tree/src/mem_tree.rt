@@ -29,7 +29,7 @@ pub type MemTree = TreeHost<MemStore>;
 #[tactic(auto, using(crate::proofs::MemLemmas::mem_rules))]
 impl TreeHost<MemStore> {
     /// A tree of these nodes, whose numbers are their places in the list, where they keep the rules; else the cause, as
-    /// `WellFormedNodes::new` says both. It has no live handle, no node is touched, and there is no look-up.
+    /// `WellFormedNodes::new` says both. It has no live handle, no node is touched, and there is no lookup.
     pub fn new(alloc: Global, nodes: Vec<NewNode>, limits: Limits) -> Result<MemTree, TreeError>
         requires limits { AreLimits limits }
         ensures tree { IfOk result (λ m. m.tree ≡ tree_of (map node_data nodes.items) limits) }
@@ -43,7 +43,7 @@ impl TreeHost<MemStore> {
         Ok(MemTree::of(alloc, fit)?)
     }
 
-    /// The tree of these nodes. It has no live handle, no node is touched, and there is no look-up. Bits and times are
+    /// The tree of these nodes. It has no live handle, no node is touched, and there is no lookup. Bits and times are
     /// as given. Every entry counts as a name of the node that it gives: a file or a link has as many links as names,
     /// and a directory but node 0 that has no name is removed.
     pub fn of(alloc: Global, fit: WellFormedNodes) -> Result<MemTree, AllocError>
@@ -55,8 +55,8 @@ impl TreeHost<MemStore> {
         Ok(TreeHost::over(alloc, MemStore::of(alloc, fit)?))
     }
 
-    /// The number of the next node that is made. Those that there are, a node without a name among them, have the numbers
-    /// below.
+    /// The number of the next node that is made. Those that there are, a node without a name among them, have the
+    /// numbers below.
     pub fn next(&self) -> u64
         ensures next { result ≡ next_of self.now.tree }
     {
@@ -82,16 +82,16 @@ impl TreeHost<MemStore> {
         Some(self.store.node(number))
     }
 
-    /// The node that a directory holds under a text, be the text a plain name or not. None where it holds none, and of what
-    /// is no directory.
+    /// The node that a directory holds under a text, be the text a plain name or not. None where it holds none, and of
+    /// what is no directory.
     pub fn entry(&self, dir: u64, name: &str) -> Option<u64>
         ensures entry { result ≡ maps.get (names_of (node_at self.now.tree dir).content) name.now }
     {
         self.store.entry(dir, name)
     }
 
-    /// The name at a place among those of a directory, which stand in byte order, the first at 0. None past the last one,
-    /// and of what is no directory.
+    /// The name at a place among those of a directory, which stand in byte order, the first at 0. None past the last
+    /// one, and of what is no directory.
     pub fn entry_at(&self, dir: u64, place: u64) -> Option<EntryView<'_>>
         ensures entry { option_map (λ e. (e.name.now, e.node)) result
             ≡ slice_get (maps.entries (names_of (node_at self.now.tree dir).content)) place }
@@ -107,9 +107,9 @@ impl TreeHost<MemStore> {
         self.store.names(dir)
     }
 
-    /// Makes a change that no call makes, as the host's step of that kind; one that a rule of the host's table refuses, that
-    /// has a name which isn't plain, or that names as a directory a number which isn't one, is skipped. It takes no memory:
-    /// the row of the old name holds the new one. Nothing is touched, and no look-up is added.
+    /// Makes a change that no call makes, as the host's step of that kind; one that a rule of the host's table refuses,
+    /// that has a name which isn't plain, or that names as a directory a number which isn't one, is skipped. It takes
+    /// no memory: the row of the old name holds the new one. Nothing is touched, and no lookup is added.
     pub fn change(&mut self, change: TreeChange)
         ensures tree { self.new.tree ≡ changed self.old.tree change }
         ensures handles { self.new.handles ≡ self.old.handles }

@@ -41,7 +41,7 @@ pub fn node_to_move<S: NodeStore>(
     Ok(Some(node))
 }
 
-/// The rules for a node that would come below itself, or in the place of a directory that is above it.
+/// The rules for a node that would come below itself, or in place of a directory that is above it.
 fn refuse_loop<S: NodeStore>(
     store: &S,
     old: u64,

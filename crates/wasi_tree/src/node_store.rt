@@ -28,11 +28,12 @@ use std::alloc::{AllocError, Global};
 use wasi_host::{Bits, DirEntry, Limits, Metadata, SystemTime};
 use wasi_paths::Name;
 
-/// How the nodes of a tree and the names of its directories are kept, and which nodes were touched. A host over a tree is
-/// generic over this: what a call is refused for, and which steps it makes, is said once for all stores.
+/// How the nodes of a tree and the names of its directories are kept, and which nodes were touched. A host over a tree
+/// is generic over this: what a call is refused for, and which steps it makes, is said once for all stores.
 ///
-/// A node has room where what is done at it takes no memory, but for its bytes and a directory's names: it may be touched,
-/// its times be set, and names of it be counted. A store that copies what changes makes this room before a step.
+/// A node has room where what is done at it takes no memory, but for its bytes and a directory's names: it may be
+/// touched, its times be set, and names of it be counted. A store that copies what changes makes this room before a
+/// step.
 pub trait NodeStore {
     /// The tree, and the touched nodes.
     ghost seen: { Self → Touched };
@@ -237,7 +238,7 @@ pub trait NodeStore {
         ensures stays { NodesStay (seen self.old).tree (seen self.new).tree }
         ensures room { Grows (HasRoom self.old) (HasRoom self.new) };
 
-    /// Cuts a file to so many bytes, or fills it up to them with zeros.
+    /// Cuts a file to a size, or fills it up with zeros.
     fn resize(&mut self, file: u64, size: usize) -> Result<(), AllocError>
         requires within { file < next_of (seen self.old).tree }
         requires at { HasRoom self.old file }

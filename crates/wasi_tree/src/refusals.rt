@@ -423,7 +423,7 @@ pub fn refuse_access<S: NodeStore>(store: &S, old: u64, new: u64, node: u64) -> 
     None
 }
 
-/// The rules for a node that comes in the place of another.
+/// The rules for a node that comes in place of another.
 #[tactic(auto, using(crate::proofs::StoreLemmas::store_rules))]
 pub fn refuse_replace<S: NodeStore>(store: &S, node: u64, lost: u64) -> Option<ErrorCode>
     requires node { node < next_of (S.seen store.now).tree }

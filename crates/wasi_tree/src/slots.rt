@@ -1,4 +1,4 @@
-//! What each live handle stands for.
+//! What each live handle refers to.
 ghost use Rattle.std.specs.Prelude.{◌≡◌, ◌<◌, ℕ, true, false, OnOk};
 ghost use Rattle.std.specs.FinSet.{contains, empty, insert, remove};
 ghost use Rattle.wasi_tree.specs.MemState.{live_of, held_in};
@@ -8,7 +8,7 @@ use std::alloc::{AllocError, Global};
 use std::marker::Model;
 use wasi_host::{Handle, OpenHandle};
 
-/// What each live handle stands for, by its number. Contracts see the live handles, and for how many more there is room.
+/// What each live handle refers to, by its number. Contracts see the live handles, and for how many more there is room.
 #[derive(Debug, Drop)]
 pub struct Slots {
     slab: Slab<OpenHandle>,
@@ -45,7 +45,7 @@ impl Slots {
         self.slab.reserve(1)
     }
 
-    /// What a live handle stands for.
+    /// What a live handle refers to.
     pub fn held(&self, handle: Handle) -> OpenHandle
         requires { contains (live_of self.now.handles) handle ≡ true }
         ensures { result ≡ held_in self.now.handles handle }

@@ -258,7 +258,7 @@ impl InodeStore {
     }
 
     /// Makes a node under a name of a directory, and gives its number. All room is taken first, so that nothing has
-    /// changed where memory is wanted.
+    /// changed if memory runs out.
     pub fn make_node(
         &mut self,
         directory: u64,
@@ -340,7 +340,7 @@ impl InodeStore {
         self.inodes[node as usize].metadata(node)
     }
 
-    /// Puts a piece of bytes into a file from an offset on. Where memory is wanted, nothing has changed.
+    /// Puts a piece of bytes into a file from an offset on. If memory runs out, nothing has changed.
     pub fn put(&mut self, file: u64, offset: usize, piece: &[u8]) -> Result<(), AllocError>
         requires within { file < next_of self.old }
         requires fits { offset + length piece.now ≤ largest_file }
@@ -354,7 +354,7 @@ impl InodeStore {
         Ok(())
     }
 
-    /// Cuts a file to so many bytes, or fills it up to them with zeros. Where memory is wanted, nothing has changed.
+    /// Cuts a file to a size, or fills it up with zeros. If memory runs out, nothing has changed.
     pub fn resize(&mut self, file: u64, size: usize) -> Result<(), AllocError>
         requires { file < next_of self.old }
         ensures sized { OnOk result (self.new ≡ size_set self.old file size) }

@@ -15,7 +15,7 @@ use wasi_paths::Name;
 
 #[tactic(auto, using(crate::proofs::StoreLemmas::store_rules))]
 impl InodeStore {
-    /// Gives a file or link a name in a directory. Where memory is wanted, nothing has changed.
+    /// Gives a file or link a name in a directory. If memory runs out, nothing has changed.
     pub fn add_link(&mut self, directory: u64, name: Name<'_>, node: u64) -> Result<(), AllocError>
         requires directory { is_directory (node_at self.old directory).content ≡ true }
         requires named { IsTrue (is_entry_name (name_bytes name)) }
@@ -32,7 +32,7 @@ impl InodeStore {
         Ok(())
     }
 
-    /// Puts a name into a directory, which another node gets. Where memory is wanted, nothing has changed.
+    /// Puts a name into a directory, which another node gets. If memory runs out, nothing has changed.
     fn put_name(&mut self, directory: u64, name: Name<'_>, node: u64) -> Result<(), AllocError>
         requires directory { is_directory (node_at self.old directory).content ≡ true }
         requires named { IsTrue (is_entry_name (name_bytes name)) }
@@ -65,7 +65,7 @@ impl InodeStore {
     }
 
     /// Moves a name of a directory, which this node has, to a name of another, which may be the same. What the new name
-    /// held loses it. The new name is put first, so that nothing has changed where memory is wanted.
+    /// held loses it. The new name is put first, so that nothing has changed if memory runs out.
     pub fn move_name(
         &mut self,
         old: u64,

@@ -23,7 +23,7 @@ use wasi_host::{
 use wasi_paths::Name;
 
 /// A tree of files as a host: its nodes as a store keeps them, with its live handles, the nodes that calls have touched
-/// since they were forgotten last, and the look-ups so far. Those are for contracts alone, and take no memory.
+/// since they were forgotten last, and the lookups so far. Those are for contracts alone, and take no memory.
 #[derive(Debug, Drop)]
 pub struct TreeHost<S: NodeStore> {
     pub(crate) store: S,
@@ -51,7 +51,7 @@ impl<S: NodeStore> Model for TreeHost<S> {
 
 #[tactic(auto, using(crate::proofs::MemLemmas::mem_rules))]
 impl<S: NodeStore> TreeHost<S> {
-    /// The tree of a store. It has no live handle, and there is no look-up.
+    /// The tree of a store. It has no live handle, and there is no lookup.
     pub fn over(alloc: Global, store: S) -> TreeHost<S>
         ensures tree { result.tree ≡ (S.seen store).tree }
         ensures touched { result.touched ≡ (S.seen store).touched }
@@ -102,8 +102,8 @@ impl<S: NodeStore> TreeHost<S> {
         Ok(self.slots.give(OpenHandle { node, mode }))
     }
 
-    /// The numbers of the touched nodes, rising: of each call's handles, of the nodes under its names, and of those made,
-    /// since the last `forget`.
+    /// The numbers of the touched nodes, rising: of each call's handles, of the nodes under its names, and of those
+    /// made, since the last `forget`.
     pub fn touched(&self, alloc: Global) -> Result<Vec<u64>, AllocError>
         ensures nodes { IfOk result (λ nodes. from_list nodes.items ≡ self.now.touched) }
         ensures rising { IfOk result (λ nodes. IsStrictlySortedBy nat_cmp nodes.items) }
@@ -112,7 +112,7 @@ impl<S: NodeStore> TreeHost<S> {
     }
 }
 
-/// Makes a call of the tree, given what a handle stands for, and logs the look-up from that handle.
+/// Makes a call of the tree, given what a handle refers to, and logs the lookup from that handle.
 macro_rules! logged {
     ($host:ident, $kind:ident from $start:ident, |$at:ident| $call:ident($($argument:expr),*)) => {{
         let $at = $host.slots.held($start);
@@ -337,7 +337,7 @@ impl<S: NodeStore> Forget for TreeHost<S> {
     }
 }
 
-/// Logs the two look-ups of a call with two names, which made no handle.
+/// Logs the two lookups of a call with two names, which made no handle.
 fn log_both(log: &mut LookupLog, kind: LookKind, old: Handle, new: Handle)
     ensures { log.new.items ≡ log.old.items ++ both_looked kind old new }
 {
@@ -345,7 +345,7 @@ fn log_both(log: &mut LookupLog, kind: LookKind, old: Handle, new: Handle)
     log_look(log, kind, new);
 }
 
-/// Logs a look-up that made no handle.
+/// Logs a lookup that made no handle.
 fn log_look(log: &mut LookupLog, kind: LookKind, from: Handle)
     ensures { log.new.items ≡ log.old.items ++ one_looked kind from }
 {

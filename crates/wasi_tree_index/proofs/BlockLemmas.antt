@@ -215,7 +215,7 @@ starts_before key (e ∷ es) all = by (key_cmp key e.0) all
     by Equal all = refl
     by Less all = absurd (omega arith)
 
--- behind all rows nothing is found
+-- after all rows nothing is found
 pub behind_all : {Y : Type 0} (key : Key) (bs : List (Vec DirEntryKey Y)) (k : ℕ) → AreBlocks bs → k + 1 ≡ length bs
     → place_in key_cmp key (list_at block_entries bs k) ≡ length (list_at block_entries bs k)
     → find key_cmp key (all_entries bs) ≡ None

@@ -104,7 +104,7 @@ module _ {K V : Type 0} (R : K → K → Ordering) where
   rises_right [] ys h = h
   rises_right (x ∷ xs) ys h = rises_right xs ys h.1
 
-  -- what is found behind keys that are below
+  -- what is found after keys that are below
   pub find_skip : (k : K) (xs ys : List (K × V)) → AllGreater k xs → find R k (xs ++ ys) ≡ find R k ys
   find_skip k [] ys h = refl
   find_skip k (x ∷ xs) ys h = rw h.0 (find_skip k xs ys h.1)
@@ -113,7 +113,7 @@ module _ {K V : Type 0} (R : K → K → Ordering) where
   none_less k [] h = refl
   none_less k (y ∷ ys) h = rw h.0 (none_less k ys h.1)
 
-  -- a put behind keys that are below
+  -- a put after keys that are below
   pub put_skip : (k : K) (v : V) (xs ys : List (K × V)) → AllGreater k xs → put R k v (xs ++ ys) ≡ xs ++ put R k v ys
   put_skip k v [] ys h = refl
   put_skip k v (x ∷ xs) ys h = rw h.0 (ap (λ es. x ∷ es) (put_skip k v xs ys h.1))

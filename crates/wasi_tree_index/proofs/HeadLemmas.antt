@@ -47,7 +47,7 @@ number-step at head bytes lt =
 abbrev pub AreBytes : List ℕ → Type 0
 AreBytes bytes = (i : ℕ) → Fits w8 (slice_index_or bytes i 0)
 
--- behind the last of eight bytes
+-- after the last of eight bytes
 pub number-end : (at head : ℕ) (bytes : List ℕ) → 8 ≤ at → head ≡ number_behind (8 - at) head bytes
 unfolding number_behind
 number-end at head bytes le = let none : 8 - at ≡ 0 = omega (arith, le) in ap (λ n. number_behind n head bytes) (sym none)
@@ -56,7 +56,7 @@ rest : (bytes : List ℕ) → AreBytes bytes → AreBytes (drop 1 bytes)
 rest [] small = small
 rest (b ∷ bytes) small = λ i. small (suc i)
 
--- a lower number stays lower, whatever bytes come behind
+-- a lower number stays lower, whatever bytes come after
 number-rises : (n a b : ℕ) (xs ys : List ℕ) → AreBytes xs → a < b → number_behind n a xs < number_behind n b ys
 unfolding number_behind
 number-rises zero a b xs ys small lt = lt

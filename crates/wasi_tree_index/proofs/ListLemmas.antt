@@ -78,7 +78,7 @@ module _ {B X : Type 0} (f : B → List X) where
       ∙ ap (λ xs. f b ++ xs) (passed_on (d ∷ bs) k c x (omega arith))
       ∙ sym (append_assoc (f b) (flat_map f (take k (d ∷ bs))) _)
 
-  -- an element more behind the list before
+  -- an element more after the list before
   pub passed_back : (bs : List B) (k : ℕ) (c : B) (x : X) → suc k < length bs
       → with_list f (set bs (suc k) c) k (list_at f (set bs (suc k) c) k ++ x ∷ []) ≡ with_list f bs (suc k) (x ∷ f c)
   unfolding list_at
@@ -133,7 +133,7 @@ module _ {K V : Type 0} (R : K → K → Ordering) (o : IsTotalOrder R) (k : K) 
   greater_append [] ys h g = g
   greater_append (x ∷ xs) ys h g = (h.0, greater_append xs ys h.1 g)
 
-  -- keys are below where others behind them start by a key
+  -- keys are below where others after them start by a key
   below_list : (xs zs ys : List (K × V)) → Started zs → starts_by R k zs ≡ true → Rises R (xs ++ (zs ++ ys)) → AllGreater R k xs
   below_list [] zs ys s y r = tt
   below_list (x ∷ xs) [] ys s y r = absurd s
@@ -171,7 +171,7 @@ module _ {K V B : Type 0} (R : K → K → Ordering) (f : B → List (K × V)) (
     closed_lists bs s.1 (rises_right R (f b) _ r),
   )
 
-  -- the keys before a list are below, and those behind it above
+  -- the keys before a list are below, and those after it above
   pub record Around (bs : List B) (i : ℕ) : Type 0 where
     pub before : AllGreater R k (flat_map f (take i bs))
     pub after : StartsAbove R k (flat_map f (drop (suc i) bs))

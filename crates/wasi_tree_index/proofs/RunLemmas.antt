@@ -204,7 +204,7 @@ run_in_order d es sorted = names_rise (run_of d es) (run_rises d es (rises key_c
 
 -- ---- the name at a place
 
--- past a list, the elements of the one behind it
+-- past a list, the elements of the one after it
 pub get_behind : {X : Type 0} (xs ys : List X) (n : ℕ) → length xs ≤ n
     → slice_get (xs ++ ys) n ≡ slice_get ys (n - length xs)
 get_behind [] ys n le = let same : n ≡ n - 0 = omega arith in ap (slice_get ys) same
@@ -265,7 +265,7 @@ module _ {Y : Type 0} (rows : List DirEntryKey) (behind : List (Vec DirEntryKey 
       ap (λ bs. slice_get (entries_from rows bs) n) (nil_from_length behind none)
       ∙ get_behind (map row_entry rows) [] n (subst (λ k. k ≤ n) (sym (length-map rows row_entry)) le)
 
-  -- past the first rows, it is one of those behind them
+  -- past the first rows, it is one of those after them
   pub goes_on : (block : Vec DirEntryKey Y) (blocks : List (Vec DirEntryKey Y)) → length rows ≤ n → behind ≡ block ∷ blocks
       → slice_get (entries_from rows behind) n ≡ slice_get (entries_from block.items blocks) (n - length rows)
   goes_on block blocks le is =

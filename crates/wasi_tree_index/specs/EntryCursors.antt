@@ -12,11 +12,11 @@ AllFrom d [] = Unit {0}
 AllFrom d (e ∷ es) = (d ≤ e.0.0) × AllFrom d es
 
 module _ {Y : Type 0} where
-  -- the entries of some rows, and of the blocks behind them
+  -- the entries of some rows, and of the blocks after them
   abbrev pub entries_from : List DirEntryKey → List (Vec DirEntryKey Y) → List NameEntry
   entries_from here rest = map row_entry here ++ all_entries rest
 
-  -- rows that rise, and the blocks behind them, from a directory on; there is a row where there is a block
+  -- rows that rise, and the blocks after them, from a directory on; there is a row where there is a block
   pub record IsRun (d : ℕ) (here : List DirEntryKey) (rest : List (Vec DirEntryKey Y)) : Type 0 where
     pub rises : IsTrue (is_sorted key_cmp (entries_from here rest))
     pub from : AllFrom d (entries_from here rest)

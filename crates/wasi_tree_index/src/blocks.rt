@@ -1,5 +1,5 @@
-//! Rows in blocks: each has room for as many rows as a block may have, so what is put or taken moves the rows of one
-//! block alone, but where a name is renamed and there is no room for a block more.
+//! Entries in blocks: each has room for as many entries as a block may have, so what is put or taken moves the entries
+//! of one block alone, but where a name is renamed and there is no room for a block more.
 ghost use Rattle.std.specs.Prelude.{◌≡◌, ℕ, ◌+◌, ◌<◌, ◌≤◌, [], ◌∷◌, ◌++◌, is_some, Some, None, IfSome, MatchOption, true, false, map, length, take, drop, not, All, IsTrue, if◌then◌else◌};
 ghost use Rattle.std.specs.List.{insert, remove};
 ghost use Rattle.std.specs.Vec.{vec_len, vec_capacity};
@@ -20,13 +20,13 @@ use crate::shift::{insert_into, insert_row, insert_through};
 use crate::sought::Sought;
 use std::mem;
 
-/// How many rows a block may have.
+/// How many entries a block may have.
 pub const BLOCK: usize = 128;
 
-/// How many rows stay where a full block is split.
+/// How many entries stay where a full block is split.
 const HALF: usize = 64;
 
-/// How many rows are before a name in a directory.
+/// How many entries are before a name in a directory.
 pub fn place(rows: &[DirEntryKey], key: &Sought<'_>) -> usize
     requires { IsTrue (is_sorted key_cmp (map row_entry rows.now)) }
     ensures place { result ≡ place_in key_cmp key.now (map row_entry rows.now) }
@@ -35,7 +35,7 @@ pub fn place(rows: &[DirEntryKey], key: &Sought<'_>) -> usize
     rows.partition_point(|row| row.is_before(key))
 }
 
-/// The node of the first row, if it has this name in this directory.
+/// The node of the first entry, if it has this name in this directory.
 fn first_at(rows: &[DirEntryKey], key: &Sought<'_>) -> Option<u64>
     ensures { result ≡ first_at key_cmp key.now (map row_entry rows.now) }
 {
@@ -48,7 +48,7 @@ fn first_at(rows: &[DirEntryKey], key: &Sought<'_>) -> Option<u64>
     Some(row.node)
 }
 
-/// The rows from a place on.
+/// The entries from a place on.
 fn from(rows: &[DirEntryKey], at: usize) -> &[DirEntryKey]
     requires { at ≤ length rows.now }
     ensures { result.now ≡ drop at rows.now }
@@ -56,7 +56,7 @@ fn from(rows: &[DirEntryKey], at: usize) -> &[DirEntryKey]
     &rows[at..]
 }
 
-/// Whether a block's first row isn't after a name in a directory.
+/// Whether a block's first entry isn't after a name in a directory.
 fn starts_by(block: &[DirEntryKey], key: &Sought<'_>) -> bool
     ensures { result ≡ starts_by key_cmp key.now (map row_entry block.now) }
 {
@@ -83,7 +83,7 @@ fn place_among(blocks: &[Vec<DirEntryKey>], key: &Sought<'_>) -> usize
     count.saturating_sub(1)
 }
 
-/// The place behind a place: the next one of its block, or else the next block's first.
+/// The place after a place: the next one of its block, or else the next block's first.
 fn behind(blocks: &Vec<Vec<DirEntryKey>>, near: SearchHint) -> SearchHint {
     let row = near.row.saturating_add(1);
     match blocks.get(near.block) {
@@ -98,7 +98,7 @@ fn behind(blocks: &Vec<Vec<DirEntryKey>>, near: SearchHint) -> SearchHint {
     }
 }
 
-/// The node of the row at a place, if there is one, and it has this name in this directory.
+/// The node of the entry at a place, if there is one, and it has this name in this directory.
 fn node_at(blocks: &Vec<Vec<DirEntryKey>>, at: SearchHint, key: &Sought<'_>) -> Option<u64>
     requires { AreBlocks blocks.now.items }
     ensures { IfSome result (λ n. find key_cmp key.now (all_entries blocks.now.items) ≡ Some n) }
@@ -112,7 +112,7 @@ fn node_at(blocks: &Vec<Vec<DirEntryKey>>, at: SearchHint, key: &Sought<'_>) -> 
     found_at(blocks, at.block, at.row, key)
 }
 
-/// The node of a name in a directory. It is looked for behind the place where one was found last, before all else.
+/// The node of a name in a directory. It is looked for after the place where one was found last, before all else.
 pub fn find(blocks: &Vec<Vec<DirEntryKey>>, near: &mut SearchHint, key: &Sought<'_>) -> Option<u64>
     requires { AreBlocks blocks.now.items }
     ensures { result ≡ find key_cmp key.now (all_entries blocks.now.items) }
@@ -131,7 +131,7 @@ pub fn find(blocks: &Vec<Vec<DirEntryKey>>, near: &mut SearchHint, key: &Sought<
     found_at(blocks, k, at, key)
 }
 
-/// The rows of a block.
+/// The entries of a block.
 fn rows_at(blocks: &Vec<Vec<DirEntryKey>>, k: usize) -> &[DirEntryKey]
     requires { k < length blocks.now.items }
     ensures { map row_entry result.now ≡ list_at block_entries blocks.now.items k }
@@ -139,7 +139,7 @@ fn rows_at(blocks: &Vec<Vec<DirEntryKey>>, k: usize) -> &[DirEntryKey]
     blocks[k].as_slice()
 }
 
-/// How many rows of a block are before a name in a directory.
+/// How many entries of a block are before a name in a directory.
 fn place_at(blocks: &Vec<Vec<DirEntryKey>>, k: usize, key: &Sought<'_>) -> usize
     requires kept { AreBlocks blocks.now.items }
     requires within { k < length blocks.now.items }
@@ -149,7 +149,7 @@ fn place_at(blocks: &Vec<Vec<DirEntryKey>>, k: usize, key: &Sought<'_>) -> usize
     place(rows_at(blocks, k), key)
 }
 
-/// Whether a name in a directory comes behind some rows: the last one is before it, or there is none.
+/// Whether a name in a directory comes after some entries: the last one is before it, or there is none.
 fn ends_before(rows: &[DirEntryKey], key: &Sought<'_>) -> bool
     requires { IsTrue (is_sorted key_cmp (map row_entry rows.now)) }
     ensures { result ≡ true → place_in key_cmp key.now (map row_entry rows.now) ≡ length rows.now }
@@ -171,8 +171,8 @@ fn rising_block(blocks: &Vec<Vec<DirEntryKey>>, key: &Sought<'_>) -> usize
     block_place(blocks, key)
 }
 
-/// How many rows of a block are before a name in a directory, as `place_at` has it. The place behind them all is tried
-/// first.
+/// How many entries of a block are before a name in a directory, as `place_at` has it. The place after them all is
+/// tried first.
 fn rising_place(blocks: &Vec<Vec<DirEntryKey>>, k: usize, key: &Sought<'_>) -> usize
     requires kept { AreBlocks blocks.now.items }
     requires within { k < length blocks.now.items }
@@ -186,7 +186,7 @@ fn rising_place(blocks: &Vec<Vec<DirEntryKey>>, k: usize, key: &Sought<'_>) -> u
     place(rows, key)
 }
 
-/// Whether a name in a directory comes behind all rows, so that none has it.
+/// Whether a name in a directory comes after all entries, so that none has it.
 pub fn is_behind(blocks: &Vec<Vec<DirEntryKey>>, key: &Sought<'_>) -> bool
     requires { AreBlocks blocks.now.items }
     ensures { result ≡ true → find key_cmp key.now (all_entries blocks.now.items) ≡ None }
@@ -195,7 +195,7 @@ pub fn is_behind(blocks: &Vec<Vec<DirEntryKey>>, key: &Sought<'_>) -> bool
     count == 0 || ends_before(rows_at(blocks, count - 1), key)
 }
 
-/// The node of the row at a place of a block, if it has this name in this directory.
+/// The node of the entry at a place of a block, if it has this name in this directory.
 fn found_at(blocks: &Vec<Vec<DirEntryKey>>, k: usize, at: usize, key: &Sought<'_>) -> Option<u64>
     requires within { k < length blocks.now.items }
     requires at { at ≤ length (list_at block_entries blocks.now.items k) }
@@ -204,7 +204,7 @@ fn found_at(blocks: &Vec<Vec<DirEntryKey>>, k: usize, at: usize, key: &Sought<'_
     first_at(from(rows_at(blocks, k), at), key)
 }
 
-/// Moves a block's rows from a place on into another block, which is empty and has room for them.
+/// Moves a block's entries from a place on into another block, which is empty and has room for them.
 fn move_tail(block: &mut Vec<DirEntryKey>, at: usize, back: &mut Vec<DirEntryKey>)
     requires within { at ≤ length block.old.items }
     requires empty { back.old.items ≡ [] }
@@ -221,7 +221,7 @@ fn move_tail(block: &mut Vec<DirEntryKey>, at: usize, back: &mut Vec<DirEntryKey
     back.reverse();
 }
 
-/// Gives a block's row at a place another node.
+/// Gives a block's entry at a place another node.
 fn set_node(block: &mut Vec<DirEntryKey>, at: usize, node: u64)
     requires { at < length block.old.items }
     ensures rows { map row_entry block.new.items ≡ revalued node (map row_entry block.old.items) at }
@@ -231,7 +231,7 @@ fn set_node(block: &mut Vec<DirEntryKey>, at: usize, node: u64)
     block[at].node = node;
 }
 
-/// Puts a row into the first block, where there is none.
+/// Puts an entry into the first block, where there is none.
 fn start(blocks: &mut Vec<Vec<DirEntryKey>>, mut block: Vec<DirEntryKey>, row: DirEntryKey)
     requires none { blocks.old.items ≡ [] }
     requires room { 0 < vec_capacity blocks.old }
@@ -244,8 +244,9 @@ fn start(blocks: &mut Vec<Vec<DirEntryKey>>, mut block: Vec<DirEntryKey>, row: D
     blocks.push_reserved(block);
 }
 
-/// Puts a row at a place of a block. Where that is full, a block that has room for a row gets one, and the rows between
-/// move on by one; if none is named, the full block is split, so that its other half is the spare block.
+/// Puts an entry at a place of a block. Where that is full, a block that has room for an entry gets one, and the
+/// entries between move on by one; if none is named, the full block is split, so that its other half is the spare
+/// block.
 fn insert_at(
     blocks: &mut Vec<Vec<DirEntryKey>>,
     spare: &mut Vec<DirEntryKey>,
@@ -273,8 +274,8 @@ fn insert_at(
     insert_block(blocks, k + 1, back);
 }
 
-/// Puts a row at a place of a full block, half of whose rows then stand in another block. A row that comes last stands
-/// alone there, so that rows which come in order fill their blocks.
+/// Puts an entry at a place of a full block, half of whose entries then stand in another block. An entry that comes
+/// last stands alone there, so that entries which come in order fill their blocks.
 fn split_row(
     block: &mut Vec<DirEntryKey>,
     mut back: Vec<DirEntryKey>,
@@ -311,7 +312,7 @@ fn insert_block(blocks: &mut Vec<Vec<DirEntryKey>>, k: usize, block: Vec<DirEntr
     };
 }
 
-/// Gives the row at a place of a block another node.
+/// Gives the entry at a place of a block another node.
 fn set_at(blocks: &mut Vec<Vec<DirEntryKey>>, k: usize, at: usize, node: u64)
     requires within { k < length blocks.old.items }
     requires at { at < length (list_at block_entries blocks.old.items k) }
@@ -339,7 +340,7 @@ pub fn set(blocks: &mut Vec<Vec<DirEntryKey>>, key: &Sought<'_>, node: u64)
     set_at(blocks, k, at, node);
 }
 
-/// Puts a node under a name in a directory, in the place of any other, where a block is named that has room for a row,
+/// Puts a node under a name in a directory, instead of any other, where a block is named that has room for an entry,
 /// or there is room for a block more.
 pub fn put(
     blocks: &mut Vec<Vec<DirEntryKey>>,
@@ -379,7 +380,7 @@ fn taken(spare: &mut Vec<DirEntryKey>) -> Vec<DirEntryKey>
 }
 
 /// Takes a name out of a directory, and gives the node that it held. Then there is room for a block more, or the block
-/// in which the name stood has room for a row.
+/// in which the name stood has room for an entry.
 pub fn remove(
     blocks: &mut Vec<Vec<DirEntryKey>>,
     spare: &mut Vec<DirEntryKey>,
@@ -407,7 +408,7 @@ pub fn remove(
     found
 }
 
-/// Takes the row at a place of a block out. A block goes with its last row, and is the spare one from then on.
+/// Takes the entry at a place of a block out. A block goes with its last entry, and is the spare one from then on.
 fn take_row(blocks: &mut Vec<Vec<DirEntryKey>>, spare: &mut Vec<DirEntryKey>, k: usize, at: usize)
     requires within { k < length blocks.old.items }
     requires at { at < length (list_at block_entries blocks.old.items k) }
@@ -438,7 +439,7 @@ fn unless_room(blocks: &Vec<Vec<DirEntryKey>>, spare: &Vec<DirEntryKey>, k: usiz
     Some(k)
 }
 
-/// Takes a name out of a directory, and puts the node that it held under a name of a directory, in the place of any
+/// Takes a name out of a directory, and puts the node that it held under a name of a directory, in place of any
 /// other.
 pub fn rename(
     blocks: &mut Vec<Vec<DirEntryKey>>,
@@ -469,7 +470,7 @@ pub fn rename(
     );
 }
 
-/// Rows and the blocks behind them, where the first rows are there if any are.
+/// Entries and the blocks after them, where the first entries are there if any are.
 pub fn settled<'a>(
     here: &'a [DirEntryKey],
     rest: &'a [Vec<DirEntryKey>],
@@ -488,7 +489,7 @@ pub fn settled<'a>(
     (block.as_slice(), rest)
 }
 
-/// The rows of a directory and of those behind it.
+/// The entries of a directory and of those after it.
 pub fn rows_from(
     blocks: &Vec<Vec<DirEntryKey>>,
     directory: u64,

@@ -88,7 +88,7 @@ impl<'a> EntryCursor<'a> {
     }
 }
 
-/// The row at a place of some rows and of the blocks behind them.
+/// The entry at a place of some entries and of the blocks after them.
 fn row_at<'a>(
     here: &'a [DirEntryKey],
     rest: &'a [Vec<DirEntryKey>],

@@ -1,7 +1,7 @@
 //! Where to look first.
 
-/// Where a name was found last: the next name that is asked for may stand just behind it. Any place will do, whatever stands
-/// there, so contracts say nothing of it.
+/// Where a name was found last: the next name that is asked for may stand just after it. Any place will do, whatever
+/// stands there, so contracts say nothing of it.
 #[derive(Clone, Copy, Debug)]
 pub struct SearchHint {
     pub(crate) block: usize,

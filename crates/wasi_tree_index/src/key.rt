@@ -1,4 +1,4 @@
-//! One row.
+//! One entry of the index: a name in a directory.
 ghost use Rattle.std.specs.Prelude.{◌≡◌};
 ghost use Rattle.std.specs.String.{string_bytes};
 ghost use Rattle.wasi_tree_index.specs.Heads.{head_of};
@@ -6,8 +6,8 @@ ghost use Rattle.wasi_tree_index.specs.Heads.{head_of};
 use crate::sought::{Sought, compare_names, head_of};
 use std::cmp::Ordering;
 
-/// A name in a directory, and the number of the node that it holds. What the name begins with stands in the row itself,
-/// so that most names are told apart without a look at their texts.
+/// A name in a directory, and the number of the node that it holds. The name's first bytes are kept in the entry
+/// itself, so most names are compared without reading their texts.
 #[derive(Debug, Drop)]
 pub struct DirEntryKey {
     pub directory: u64,
@@ -23,7 +23,7 @@ impl DirEntryKey {
     ghost use Rattle.std.specs.Ordering.{is_gt, is_lt, is_eq};
     ghost use Rattle.wasi_tree_index.specs.DirEntryKeys.{key_cmp, row_key};
 
-    /// A name in a directory, with a node's number.
+    /// The entry of a name in a directory that holds a node of this number.
     pub fn new(directory: u64, name: String, node: u64) -> DirEntryKey
         ensures directory { result.directory ≡ directory }
         ensures name { string_bytes result.name ≡ string_bytes name }
@@ -38,7 +38,7 @@ impl DirEntryKey {
         }
     }
 
-    /// This row's name in its directory, to look for.
+    /// This entry's name in its directory, as a search key.
     pub(crate) fn sought(&self) -> Sought<'_>
         ensures directory { result.0 ≡ self.now.directory }
         ensures name { result.1 ≡ string_bytes self.now.name }
@@ -50,7 +50,7 @@ impl DirEntryKey {
         }
     }
 
-    /// How a name in a directory stands to this row.
+    /// The order of a search key and this entry: by directory, then by the bytes of the name.
     fn compare(&self, key: &Sought<'_>) -> Ordering
         ensures { result ≡ key_cmp key.now (row_key self.now) }
     {
@@ -61,21 +61,21 @@ impl DirEntryKey {
         }
     }
 
-    /// Whether a name in a directory comes after this row.
+    /// Whether this entry is before a search key.
     pub(crate) fn is_before(&self, key: &Sought<'_>) -> bool
         ensures { result ≡ is_gt (key_cmp key.now (row_key self.now)) }
     {
         self.compare(key).is_gt()
     }
 
-    /// Whether a name in a directory comes before this row.
+    /// Whether this entry is after a search key.
     pub(crate) fn is_after(&self, key: &Sought<'_>) -> bool
         ensures { result ≡ is_lt (key_cmp key.now (row_key self.now)) }
     {
         self.compare(key).is_lt()
     }
 
-    /// Whether this row has a name in a directory.
+    /// Whether this entry is the one of a search key.
     pub(crate) fn is_at(&self, key: &Sought<'_>) -> bool
         ensures { result ≡ is_eq (key_cmp key.now (row_key self.now)) }
     {

@@ -1,4 +1,4 @@
-//! The names of all directories of a tree, as rows that are sorted by directory and then by the bytes of the name.
+//! The names of all directories of a tree, as entries that are sorted by directory and then by the bytes of the name.
 #![tactic(auto)]
 
 mod blocks;

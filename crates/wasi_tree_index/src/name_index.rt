@@ -1,4 +1,4 @@
-//! The rows of all directories.
+//! The entries of all directories.
 ghost use Rattle.std.specs.Prelude.{◌≡◌, ℕ, List, OnErr, OnOk, IfOk, Some, is_some, true, false, nat_eq};
 ghost use Rattle.std.specs.FinMap as maps;
 ghost use Rattle.std.specs.String.{string_bytes};
@@ -12,9 +12,10 @@ use crate::sought::Sought;
 use std::alloc::{AllocError, Global};
 use std::marker::Model;
 
-/// The names of all directories of a tree, each with the node that it holds, in one sequence that is sorted by directory
-/// and then by the bytes of the name. It is kept in blocks, so that an insert or a removal moves the rows of one block
-/// alone. Contracts see a finite map from directories and names, and whether there is room for one more name.
+/// The names of all directories of a tree, each with the node that it holds, in one sequence that is sorted by
+/// directory and then by the bytes of the name. It is kept in blocks, so that an insert or a removal moves the entries
+/// of one block alone. Contracts see a finite map from directories and names, and whether there is room for one more
+/// name.
 #[derive(Debug, Drop)]
 pub struct NameIndex {
     blocks: Vec<Vec<DirEntryKey>>,
@@ -44,14 +45,14 @@ impl NameIndex {
         }
     }
 
-    /// The node of a name in a directory. It is looked for behind the place where one was found last, before all else.
+    /// The node of a name in a directory. It is looked for after the place where one was found last, before all else.
     pub fn find(&self, near: &mut SearchHint, directory: u64, name: &str) -> Option<u64>
         ensures { result ≡ maps.get self.now.names (directory, name.now) }
     {
         blocks::find(&self.blocks, near, &Sought::new(directory, name))
     }
 
-    /// Whether a directory has a name. Of one that comes behind all others this is told at once.
+    /// Whether a directory has a name. Of one that comes after all others this is told at once.
     pub fn has(&self, directory: u64, name: &str) -> bool
         ensures { result ≡ is_some (maps.get self.now.names (directory, name.now)) }
     {
@@ -70,7 +71,7 @@ impl NameIndex {
         self.blocks.is_empty()
     }
 
-    /// Makes room for one more name. Where there is room already it takes no memory; where memory is wanted all stays as
+    /// Makes room for one more name. Where there is room already it takes no memory; if memory runs out all stays as
     /// it was.
     pub fn reserve(&mut self) -> Result<(), AllocError>
         ensures names { self.new.names ≡ self.old.names }
@@ -86,7 +87,7 @@ impl NameIndex {
         Ok(())
     }
 
-    /// Puts a node under a name in a directory, in the place of any other.
+    /// Puts a node under a name in a directory, instead of any other.
     pub fn insert(&mut self, directory: u64, name: String, node: u64)
         requires { self.old.has_room ≡ true }
         ensures names { self.new.names ≡ maps.insert self.old.names (directory, string_bytes name) node }
@@ -105,7 +106,7 @@ impl NameIndex {
         blocks::set(&mut self.blocks, &key, node);
     }
 
-    /// Puts a node under a name in a directory, in the place of any other. Only where the directory has no such name is
+    /// Puts a node under a name in a directory, instead of any other. Only where the directory has no such name is
     /// this copied, and room made for it.
     pub fn put(&mut self, directory: u64, name: &str, node: u64) -> Result<(), AllocError>
         ensures put { OnOk result (self.new.names ≡ maps.insert self.old.names (directory, name.now) node) }
@@ -121,7 +122,7 @@ impl NameIndex {
         Ok(())
     }
 
-    /// A name once more, where the rows have theirs.
+    /// A name once more, where the entries have theirs.
     fn copied(&self, name: &str) -> Result<String, AllocError>
         ensures { IfOk result (λ copy. string_bytes copy ≡ name.now) }
     {
@@ -139,8 +140,8 @@ impl NameIndex {
     }
 
     /// Takes a name out of a directory, and puts the node that it held under a name of a directory, which may be the
-    /// same, in the place of any other. It takes no memory: where the new name's block is full, and there is no room for
-    /// a block more, the rows between the two places move on by one.
+    /// same, instead of any other. It takes no memory: where the new name's block is full, and there is no room for
+    /// a block more, the entries between the two places move on by one.
     pub fn rename(&mut self, directory: u64, name: &str, new_directory: u64, new_name: String)
         requires { is_some (maps.get self.old.names (directory, name.now)) ≡ true }
         ensures names { (node : ℕ) → maps.get self.old.names (directory, name.now) ≡ Some node
@@ -190,7 +191,7 @@ pub fn directories_are_apart()
         → names_at (maps.remove m (d, name)) e ≡ names_at m e }
 {}
 
-/// Two names that differ: it is the same whether one is taken before the other is put, or behind it.
+/// Two names that differ: it is the same whether one is taken before the other is put, or after it.
 pub fn names_are_apart()
     ensures { (m : AllNames) (a b : Key) (n : ℕ) → (a ≡ b → ⊥)
         → maps.insert (maps.remove m a) b n ≡ maps.remove (maps.insert m b n) a }

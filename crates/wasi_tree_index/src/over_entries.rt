@@ -10,7 +10,7 @@ use crate::over_index::TAKEN;
 use std::marker::Model;
 
 /// The names of a directory that are still to come, in byte order, each with the node that it holds. They are those of
-/// rows that stay, but for the names that were put or taken since. Contracts see them as a list.
+/// entries that stay, but for the names that were put or taken since. Contracts see them as a list.
 #[derive(Drop)]
 pub struct OverEntryCursor<'a> {
     pub(crate) base: EntryCursor<'a>,

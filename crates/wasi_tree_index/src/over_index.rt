@@ -1,4 +1,4 @@
-//! Names that were put or taken, over rows that stay.
+//! Names that were put or taken, over entries that stay.
 ghost use Rattle.std.specs.Prelude.{◌≡◌, ◌<◌, ◌-◌, ◌^◌, OnErr, OnOk, IfOk, Some, is_some, true, nat_eq};
 ghost use Rattle.std.specs.FinMap as maps;
 ghost use Rattle.wasi_tree_index.specs.DirEntryKeys.{AllNames, Key, names_at};
@@ -13,9 +13,9 @@ use std::marker::Model;
 /// The node that marks a name as taken. No name holds it.
 pub(crate) const TAKEN: u64 = u64::MAX;
 
-/// The names of all directories of a tree as rows that stay give them, but for the names that were put or taken since.
-/// A name that was taken from those that stay has a row with the mark for its node. Contracts see a finite map from
-/// directories and names.
+/// The names of all directories of a tree as entries that stay give them, but for the names that were put or taken
+/// since. A name that was taken from those that stay has an entry with the mark for its node. Contracts see a finite
+/// map from directories and names.
 #[derive(Debug, Drop)]
 pub struct OverNameIndex<'a> {
     base: &'a NameIndex,
@@ -34,7 +34,7 @@ impl<'a> Model for OverNameIndex<'a> {
 }
 
 impl<'a> OverNameIndex<'a> {
-    /// The names of some rows. It takes no memory.
+    /// The names of some entries. It takes no memory.
     pub fn new(alloc: Global, base: &'a NameIndex) -> OverNameIndex<'a>
         ensures { result ≡ base.now.names }
     {
@@ -44,7 +44,7 @@ impl<'a> OverNameIndex<'a> {
         }
     }
 
-    /// The node of a name in a directory. In the rows that stay it is looked for behind the place where one was found
+    /// The node of a name in a directory. In the entries that stay it is looked for after the place where one was found
     /// last, before all else.
     pub fn find(&self, near: &mut SearchHint, directory: u64, name: &str) -> Option<u64>
         ensures { result ≡ maps.get self.now (directory, name.now) }
@@ -60,7 +60,7 @@ impl<'a> OverNameIndex<'a> {
         }
     }
 
-    /// Puts a node under a name in a directory, in the place of any other. The mark is no node, so it is refused as one for
+    /// Puts a node under a name in a directory, instead of any other. The mark is no node, so it is refused as one for
     /// which there is no room.
     pub fn put(&mut self, directory: u64, name: &str, node: u64) -> Result<(), AllocError>
         ensures put { OnOk result (self.new ≡ maps.insert self.old (directory, name.now) node) }
@@ -73,8 +73,8 @@ impl<'a> OverNameIndex<'a> {
         Ok(())
     }
 
-    /// Takes a name out of a directory. A mark is kept only of a name that the rows that stay have, so names that are made
-    /// and taken again leave nothing.
+    /// Takes a name out of a directory. A mark is kept only of a name that the entries that stay have, so names that
+    /// are made and taken again leave nothing.
     pub fn take(&mut self, directory: u64, name: &str) -> Result<(), AllocError>
         ensures taken { OnOk result (self.new ≡ maps.remove self.old (directory, name.now)) }
         ensures kept { OnErr result (self.new ≡ self.old) }
@@ -87,7 +87,7 @@ impl<'a> OverNameIndex<'a> {
         Ok(())
     }
 
-    /// Puts the node of a name under another name, in the place of any other, and takes the first name out. What wants
+    /// Puts the node of a name under another name, instead of any other, and takes the first name out. What wants
     /// memory comes before that. The mark is refused as by `put`.
     pub fn rename(
         &mut self,
@@ -130,8 +130,8 @@ impl<'a> OverNameIndex<'a> {
     }
 }
 
-/// Gives a name that the rows that stay have a row among the changed ones, with the node that it holds, and answers
-/// whether they have it. It can then be marked without memory.
+/// Gives a name that the entries that stay have an entry among the changed ones, with the node that it holds, and
+/// answers whether they have it. It can then be marked without memory.
 fn hold(
     base: &NameIndex,
     changed: &mut NameIndex,
@@ -152,8 +152,8 @@ fn hold(
     Ok(true)
 }
 
-/// Takes out a name, given whether the rows that stay have it. If they do, it has a row among the changed ones, which is
-/// marked then, and else it goes.
+/// Takes out a name, given whether the entries that stay have it. If they do, it has an entry among the changed ones,
+/// which is marked then, and else it goes.
 fn strike(changed: &mut NameIndex, directory: u64, name: &str, is_below: bool)
     requires { is_below ≡ true → is_some (maps.get changed.old.names (directory, name.now)) ≡ true }
     ensures { (base : AllNames) → is_below ≡ is_some (maps.get base (directory, name.now))

@@ -1,4 +1,4 @@
-//! A row put into a full block, where another block has room: the rows between the two places move on by one.
+//! An entry put into a full block, where another block has room: the entries between the two places move on by one.
 ghost use Rattle.std.specs.Prelude.{◌≡◌, ◌<◌, ◌≤◌, [], ◌∷◌, ◌++◌, length, All};
 ghost use Rattle.std.specs.List.{insert};
 ghost use Rattle.std.specs.Vec.{vec_capacity};
@@ -6,7 +6,7 @@ ghost use Rattle.wasi_tree_index.specs.Blocks.{all_entries, with_row, IsBlock, I
 
 use crate::key::DirEntryKey;
 
-/// Puts a row at a place of a block that has room for it.
+/// Puts an entry at a place of a block that has room for it.
 pub fn insert_row(block: &mut Vec<DirEntryKey>, at: usize, row: DirEntryKey)
     requires within { at ≤ length block.old.items }
     requires room { length block.old.items < vec_capacity block.old }
@@ -18,7 +18,7 @@ pub fn insert_row(block: &mut Vec<DirEntryKey>, at: usize, row: DirEntryKey)
     };
 }
 
-/// Puts a row at a place of one of the blocks, which has room for it.
+/// Puts an entry at a place of one of the blocks, which has room for it.
 pub fn insert_into(blocks: &mut Vec<Vec<DirEntryKey>>, k: usize, at: usize, row: DirEntryKey)
     requires place { IsPlace blocks.old.items k at }
     requires room { HasSpace blocks.old.items k }
@@ -28,7 +28,7 @@ pub fn insert_into(blocks: &mut Vec<Vec<DirEntryKey>>, k: usize, at: usize, row:
     insert_row(&mut blocks[k], at, row);
 }
 
-/// Puts a row at a place of a block, and gives the row that is its last one then.
+/// Puts an entry at a place of a block, and gives the entry that is its last one then.
 fn pass_on(block: &mut Vec<DirEntryKey>, at: usize, row: DirEntryKey) -> DirEntryKey
     requires at { at ≤ length block.old.items }
     requires block { IsBlock block.old }
@@ -43,7 +43,7 @@ fn pass_on(block: &mut Vec<DirEntryKey>, at: usize, row: DirEntryKey) -> DirEntr
     last
 }
 
-/// Puts a row at a place of a block, and gives the row that is its first one then.
+/// Puts an entry at a place of a block, and gives the entry that is its first one then.
 fn pass_back(block: &mut Vec<DirEntryKey>, at: usize, row: DirEntryKey) -> DirEntryKey
     requires at { at ≤ length block.old.items }
     requires block { IsBlock block.old }
@@ -58,7 +58,7 @@ fn pass_back(block: &mut Vec<DirEntryKey>, at: usize, row: DirEntryKey) -> DirEn
     first
 }
 
-/// Puts a row at a place of a block, where this block or one behind it has room for a row.
+/// Puts an entry at a place of a block, where this block or one after it has room for an entry.
 fn move_on(
     blocks: &mut Vec<Vec<DirEntryKey>>,
     mut k: usize,
@@ -80,7 +80,7 @@ fn move_on(
     insert_into(blocks, k, at, row);
 }
 
-/// Puts a row at a place of a block, where this block or one before it has room for a row.
+/// Puts an entry at a place of a block, where this block or one before it has room for an entry.
 fn move_back(
     blocks: &mut Vec<Vec<DirEntryKey>>,
     mut k: usize,
@@ -102,7 +102,8 @@ fn move_back(
     insert_into(blocks, k, at, row);
 }
 
-/// Puts a row at a place of a block, where some block has room for a row. The rows between the two move on by one.
+/// Puts an entry at a place of a block, where some block has room for an entry. The entries between the two move on by
+/// one.
 pub fn insert_through(
     blocks: &mut Vec<Vec<DirEntryKey>>,
     k: usize,

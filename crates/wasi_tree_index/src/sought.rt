@@ -40,7 +40,8 @@ impl<'a> Sought<'a> {
     }
 }
 
-/// The number that a text's first eight bytes make, the first the highest. Where a text has fewer, zeros stand behind it.
+/// The number that a text's first eight bytes make, the first the highest. Where a text has fewer, zeros stand after
+/// it.
 pub fn head_of(text: &str) -> u64
     ensures { result ≡ head_of text.now }
 {
@@ -67,7 +68,7 @@ pub fn compare_names(name: &str, head: u64, other: &str, other_head: u64) -> Ord
     }
 }
 
-/// The byte at a place, and zero behind the end.
+/// The byte at a place, and zero past the end.
 fn byte_at(bytes: &[u8], at: usize) -> u8
     ensures { result ≡ slice_index_or bytes.now at 0 }
 {

@@ -26,7 +26,7 @@ found_numbered calls number changes t is fits =
     (lt-ltb (calls + 0) (2 ^ 64 - 1) (omega (arith, is, fits)))
     ∙ ap (λ n. all_made t (due_before n changes)) at
 
--- and the changes behind it are to come
+-- and the changes after it are to come
 pub follow_numbered : (calls number : ℕ) (changes changes' : List Change) → number ≡ calls + 1
     → ((n : ℕ) → number < n → due_before n changes' ≡ due_before n changes)
     → Follow (made_by_others calls changes) (made_by_others number changes')
@@ -37,7 +37,7 @@ follow_numbered calls number changes changes' is later n t =
     ∙ ap (λ due. cond (nat_lt (calls + (n + 1)) (2 ^ 64 - 1)) (all_made t due) t)
     (later (calls + (n + 1) + 1) (omega (arith, is)))
 
--- no change is made before a call that has no number, nor before those behind it
+-- no change is made before a call that has no number, nor before those after it
 pub unchanged_late : (calls : ℕ) (changes : List Change) (n : ℕ) (t : Tree) → 2 ^ 64 - 1 ≤ calls
     → made_by_others calls changes n t ≡ t
 unfolding made_by_others

@@ -20,9 +20,9 @@ use wasi_paths::Name;
 use wasi_tree::MemTree;
 
 /// A tree in memory that others change: each change of a list is made before the host's call of its number, and those
-/// of one number in the list's order; `MemTree::change` says what a change does, and which are skipped. A change takes no
-/// memory, touches no node, and adds no look-up. No call fails by itself. It isn't modelled, but what each call
-/// finds and leaves. Contracts see the tree in memory, the changes to come, and how many calls came.
+/// of one number in the list's order; `MemTree::change` says what a change does, and which are skipped. A change takes
+/// no memory, touches no node, and adds no lookup. No call fails by itself. It isn't modelled, but what each call finds
+/// and leaves. Contracts see the tree in memory, the changes to come, and how many calls came.
 #[derive(Debug, Drop)]
 pub struct Shared {
     tree: MemTree,
@@ -45,9 +45,9 @@ impl Model for Shared {
 }
 
 impl Shared {
-    /// A tree that others change so; no call came yet. The list may come in any order; changes of one number are made in
-    /// theirs. A list whose numbers don't rise is put in order first, in at most the square of its length. It takes no
-    /// memory.
+    /// A tree that others change so; no call came yet. The list may come in any order; changes of one number are made
+    /// in theirs. A list whose numbers don't rise is put in order first, in at most the square of its length. It takes
+    /// no memory.
     pub fn new(tree: MemTree, mut changes: Vec<Change>) -> Shared
         ensures inner { result.inner ≡ tree }
         ensures calls { result.calls ≡ 0 }

@@ -1,4 +1,4 @@
-//! The calls of preview1, by their numbers in the table of `embed/calls.h`.
+//! The calls of preview1, by their numbers in the table of `embed/zurgwenad/calls.h`.
 
 use crate::{Sandbox, Stop};
 

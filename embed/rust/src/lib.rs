@@ -1,5 +1,5 @@
 //! A sandbox of the proved calls of `wasi_snapshot_preview1`, over a tree of files in memory: the functions of
-//! `embed/wasi.h` behind a type that keeps what they ask of their caller. A sandbox is one value that nobody copies; a
+//! `embed/zurgwenad/wasi.h` behind a type that keeps what they ask of their caller. A sandbox is one value that nobody copies; a
 //! call borrows it and the guest's memory alone; and a guest that was stopped calls nothing more.
 //!
 //! `docs/embedding.md` says what is proved, and what isn't: this file isn't.

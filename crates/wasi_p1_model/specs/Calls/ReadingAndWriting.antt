@@ -28,7 +28,7 @@ fd_pread g fd iovs n offset = at_buffer g (read_place_in g.slots g.table_max (sl
     (λ f buffer _. read_into g f offset buffer)
 
 -- a piece goes into a file, as its host refuses, and before that read-only permissions `badf`, and what passes the
--- bound on bytes `dquot`: behind the last byte in append mode, and else from an offset on
+-- bound on bytes `dquot`: after the last byte in append mode, and else from an offset on
 abbrev pub write_into : Guest → OpenFile → ℕ → List ℕ → CallFront
 write_into g f offset piece = do
   _ ← free (may_write f.perms)
@@ -41,7 +41,7 @@ unfoldable pub fd_pwrite : Guest → ℕ → ℕ → ℕ → ℕ → CallFront
 fd_pwrite g fd iovs n offset =
     at_buffer g (file_in WriteAt (slice_get g.slots fd)) iovs n (λ f _ piece. write_into g f offset piece)
 
--- a buffer is filled from the standard input, or from a file, as its host refuses: the position is behind the bytes
+-- a buffer is filled from the standard input, or from a file, as its host refuses: the position is after the bytes
 abbrev pub read_from : Guest → ℕ → ReadTarget → Iovec → CallFront
 read_from g fd input buffer = do
   read ← free (input_into g.memory g.holdings buffer)
@@ -59,7 +59,7 @@ fd_read g fd iovs n =
     at_buffer g (read_target_in (slice_get g.slots fd)) iovs n (λ source buffer _. read_from g fd source buffer)
 
 -- A piece goes to an output, or into a file, as its host refuses, and before that read-only permissions `badf`, and
--- what passes the bound on bytes `dquot`. The position is behind the bytes; in append mode they go behind the last
+-- what passes the bound on bytes `dquot`. The position is after the bytes; in append mode they go after the last
 -- byte, and the position is the file's size
 abbrev pub write_to : Guest → ℕ → WriteTarget → List ℕ → CallFront
 write_to g fd (output o) piece =

@@ -13,7 +13,7 @@ use Rattle.wasi_p1_types.specs.Services.{sizes_of, texts_at, clock_res, clock_ti
 use Rattle.wasi_p1_types.specs.declared.error.P1Error.TheVariants.{Errno}
 
 -- Where there are texts: a list of addresses that isn't aligned or leaves the memory traps, and so do the bytes. Then
--- the address of each text stands in the list, and its bytes with a zero behind them in the buffer
+-- the address of each text stands in the list, and its bytes with a zero after them in the buffer
 abbrev pub puts_texts : Guest → List (List ℕ) → ℕ → ℕ → CallFront
 puts_texts g texts at buf = do
   memory ← free (texts_at g.memory texts at buf)
@@ -22,7 +22,7 @@ puts_texts g texts at buf = do
 unfoldable pub args_get : Guest → ℕ → ℕ → CallFront
 args_get g argv argv_buf = puts_texts g g.holdings.args argv argv_buf
 
--- how many texts there are, and how many bytes they have with a zero behind each; a number past 32 bits is refused
+-- how many texts there are, and how many bytes they have with a zero after each; a number past 32 bits is refused
 -- `overflow`
 unfoldable pub args_sizes_get : Guest → CallFront
 args_sizes_get g = tells g (sizes_of g.holdings.args) (λ sizes. sizes)

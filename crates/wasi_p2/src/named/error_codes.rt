@@ -10,7 +10,7 @@ use wasi_p2_calls::{FsError, WasiFilesystemCtxView};
 use wasi_streams::StreamError;
 
 impl<'a, T> WasiCtxNamedView<'a, T> {
-    /// The code of a refusal; a trap and want of memory have none, and are given back. It is that of no view: what has
+    /// The code of a refusal; a trap and out of memory have none, and are given back. It is that of no view: what has
     /// them stays as it is.
     pub fn convert_error_code(&mut self, err: FsError) -> Result<ErrorCode, FsError>
         ensures same { self.new.0 ≡ self.old.0 }

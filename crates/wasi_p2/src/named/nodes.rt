@@ -1,4 +1,4 @@
-//! The calls of a named view about what a descriptor stands for, and of a file's bytes.
+//! The calls of a named view about what a descriptor refers to, and of a file's bytes.
 ghost use Rattle.std.specs.Prelude.{◌≡◌, ◌<◌, length};
 ghost use Rattle.wasi_p2_calls.specs.FileBytes.{ReadsFile, WritesFile};
 ghost use Rattle.wasi_p2_calls.specs.Nodes.{Advises, SetsSize, SyncsIt, TellsFlags, TellsType, TellsStat, TellsHash, SetsTimes, ComparesBoth};

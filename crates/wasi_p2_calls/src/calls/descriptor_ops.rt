@@ -1,4 +1,4 @@
-//! The calls of a view about what a descriptor stands for.
+//! The calls of a view about what a descriptor refers to.
 ghost use Rattle.std.specs.Prelude.{◌≡◌};
 ghost use Rattle.wasi_p2_calls.specs.Nodes.{Advises, SetsSize, TellsFlags, TellsType, TellsStat, TellsHash, SyncsIt, SetsTimes, ComparesBoth};
 ghost use Rattle.wasi_p2_calls.specs.Views.{FilesOwned, files_of};
@@ -56,7 +56,7 @@ impl<'a, H: Host> WasiFilesystemCtxView<'a, H> {
         raised(descriptor.sync_data(self.ctx.alloc, &mut self.ctx.host))
     }
 
-    /// Waits until the node is stored, with what is said of it.
+    /// Waits until the node is stored, with its metadata.
     #[tactic(auto, using(crate::proofs::Owning::has_lives, crate::proofs::Owning::looks_anew))]
     pub fn sync(&mut self, fd: Resource) -> FsResult<()>
         requires owned { FilesOwned H.Host (files_of self.old.ctx.now self.old.table.now) }
@@ -97,7 +97,7 @@ impl<'a, H: Host> WasiFilesystemCtxView<'a, H> {
         Ok(DescriptorType::from(type_))
     }
 
-    /// What is said of the node.
+    /// The metadata of the node.
     #[tactic(auto, using(crate::proofs::Owning::has_lives))]
     pub fn stat(&mut self, fd: Resource) -> FsResult<DescriptorStat>
         requires owned { FilesOwned H.Host (files_of self.old.ctx.now self.old.table.now) }
@@ -146,7 +146,7 @@ impl<'a, H: Host> WasiFilesystemCtxView<'a, H> {
         raised(descriptor.set_times(&mut self.ctx.host, atim, mtim))
     }
 
-    /// Whether two descriptors stand for one node. The first one's refusals go first.
+    /// Whether two descriptors refer to one node. The first one's refusals go first.
     #[tactic(auto, using(crate::proofs::Owning::has_lives))]
     pub fn is_same_object(&mut self, a: Resource, b: Resource) -> FsResult<bool>
         requires owned { FilesOwned H.Host (files_of self.old.ctx.now self.old.table.now) }

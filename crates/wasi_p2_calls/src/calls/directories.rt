@@ -24,7 +24,7 @@ fn give_all<H: Host>(
 }
 
 impl<'a, H: Host> WasiFilesystemCtxView<'a, H> {
-    /// Each directory that the guest was given, in order, with its name: an entry of its own, over a handle of its own by
+    /// Each preopen, in order, with its name: an entry of its own, over a handle of its own by
     /// a host's `dup`. Refusals: a trap where there may not be so many entries; those of `dup`. Each refusal leaves
     /// entries and handles as they were.
     pub fn get_directories(&mut self) -> FsResult<Vec<PreopenEntry>>

@@ -9,7 +9,7 @@ use wasi_streams::StreamError;
 
 /// Each call leaves the context and the table as they were.
 impl<'a, H: Host> WasiFilesystemCtxView<'a, H> {
-    /// The code of a refusal; a trap and want of memory have none, and are given back.
+    /// The code of a refusal; a trap and out of memory have none, and are given back.
     pub fn convert_error_code(&mut self, err: FsError) -> Result<ErrorCode, FsError>
         ensures same_ctx { self.new.ctx.ghost_name ≡ self.old.ctx.ghost_name }
         ensures same_table { self.new.table.ghost_name ≡ self.old.table.ghost_name }

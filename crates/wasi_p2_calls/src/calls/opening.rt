@@ -95,8 +95,8 @@ impl<'a, H: Host> WasiFilesystemCtxView<'a, H> {
     }
 
     /// A stream of bytes into a file from `offset` on. Refusals: a trap where the resource is missing or no descriptor,
-    /// BadDescriptor of a directory, NotPermitted where altering isn't permitted; the full table; then those of a host's
-    /// `dup`.
+    /// BadDescriptor of a directory, NotPermitted where altering isn't permitted; the full table; then those of a
+    /// host's `dup`.
     pub fn write_via_stream(&mut self, fd: Resource, offset: u64) -> FsResult<Resource>
         requires owned { FilesOwned H.Host (files_of self.old.ctx.now self.old.table.now) }
         ensures same_ctx { self.new.ctx.ghost_name ≡ self.old.ctx.ghost_name }
@@ -107,8 +107,8 @@ impl<'a, H: Host> WasiFilesystemCtxView<'a, H> {
         self.stream_to(fd, FileOutputMode::Position(offset))
     }
 
-    /// A stream of bytes behind a file's last one. Refusals: those of `write_via_stream`, but NotPermitted where appending
-    /// isn't permitted.
+    /// A stream of bytes after a file's last one. Refusals: those of `write_via_stream`, but NotPermitted where
+    /// appending isn't permitted.
     pub fn append_via_stream(&mut self, fd: Resource) -> FsResult<Resource>
         requires owned { FilesOwned H.Host (files_of self.old.ctx.now self.old.table.now) }
         ensures same_ctx { self.new.ctx.ghost_name ≡ self.old.ctx.ghost_name }

@@ -79,7 +79,7 @@ impl<'a, H: Host> WasiFilesystemCtxView<'a, H> {
         raised(dir.readlink_at(self.ctx.alloc, &mut self.ctx.host, path))
     }
 
-    /// What is said of the node that a path names.
+    /// The metadata of the node that a path names.
     #[tactic(auto, using(crate::proofs::Owning::has_lives))]
     pub fn stat_at(
         &mut self,

@@ -85,7 +85,7 @@ loop-one-preserved g c = record {
   room = omega arith;
 }
 
--- ---- memory was wanted
+-- ---- memory ran out
 
 pub returns-in-None-clause-size : goal.returns-in-None-clause-size
 returns-in-None-clause-size g c = c.call_with-outcome.ensures.size ∙ c.loop-one.invariant.size

@@ -6,7 +6,7 @@ use Rattle.wasi_tree.specs.NodeData.{NodeData, node_data, new_node_data}
 use Rattle.wasi_script_gen.specs.GenNodes.{content_of}
 use Rattle.wasi_script_gen.proofs.nodes.push_all.Goals as goal
 
--- one more made behind those before it
+-- one more made after those before it
 one_more : (made : ℕ → NodeData) (i : ℕ) (front : List NodeData) {all new : List NodeData} → all ≡ new ++ made i ∷ []
     → new ≡ front ++ map made (range_with_len 0 i) → all ≡ front ++ map made (range_with_len 0 (i + 1))
 one_more made i front is so_far =

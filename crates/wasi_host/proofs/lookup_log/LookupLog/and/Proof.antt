@@ -1,4 +1,4 @@
--- `and` picks the look-ups of the new log. Assumes `Logic`.
+-- `and` picks the lookups of the new log. Assumes `Logic`.
 use Rattle.std.proofs.Common.{List, [], ◌∷◌, ◌++◌, refl}
 use seplogic.Ra.Ura.{Ura}
 use mir.Syntax.{Fn}

@@ -1,4 +1,4 @@
--- `new` picks no look-ups. Assumes `Logic`.
+-- `new` picks no lookups. Assumes `Logic`.
 use Rattle.std.proofs.Common.{[], ◌∷◌, refl}
 use seplogic.Ra.Ura.{Ura}
 use mir.Syntax.{Fn}
