@@ -93,27 +93,44 @@ static uint32_t open_path(wasi_sandbox *sandbox, uint8_t *memory, const char *pa
     return wasi_path_open(sandbox, memory, PAGE, 3, 0, 64, (uint32_t)strlen(path), flags, 2, 0, 0, 16);
 }
 
+// What the position of a file is answered where its result goes to an address of a memory of so many bytes.
+static uint32_t told_at(uint8_t *memory, size_t length, uint32_t at) {
+    wasi_sandbox sandbox = {0};
+    start(&sandbox, SCRIPT);
+    need(open_path(&sandbox, memory, "f", 0) == 0 && memory[16] == 4, "a descriptor");
+    uint32_t code = wasi_fd_tell(&sandbox, memory, length, 4, at);
+    need(wasi_answered(&sandbox) == 1 + (code == 0), "a call with no place for its result isn't made");
+    need((wasi_fd_close(&sandbox, memory, PAGE, 77) == WASI_ERRNO_BADF) == (code == 0), "after a trap no call is made");
+    wasi_end(&sandbox);
+    return code;
+}
+
 static void of_results(void) {
     wasi_sandbox sandbox = {0};
     uint8_t *memory = calloc(1, PAGE);
+    need(told_at(memory, PAGE, 12) == WASI_TRAP_POINTER, "an address that isn't aligned");
+    need(told_at(memory, PAGE, PAGE) == WASI_TRAP_POINTER, "an address behind the memory");
+    need(told_at(memory, PAGE, PAGE - 8) == 0, "the last address");
+    need(told_at(memory, 8, 8) == WASI_TRAP_POINTER, "a shorter memory");
     start(&sandbox, SCRIPT);
     need(wasi_fd_close(&sandbox, memory, PAGE, 77) == WASI_ERRNO_BADF, "an error number");
     need(open_path(&sandbox, memory, "f", 0) == 0 && memory[16] == 4, "a descriptor");
-    need(wasi_fd_tell(&sandbox, memory, PAGE, 4, 12) == WASI_TRAP_POINTER, "an address that isn't aligned");
-    need(wasi_fd_tell(&sandbox, memory, PAGE, 4, PAGE) == WASI_TRAP_POINTER, "an address behind the memory");
-    need(wasi_fd_tell(&sandbox, memory, PAGE, 4, PAGE - 8) == 0, "the last address");
-    need(wasi_fd_tell(&sandbox, memory, 8, 4, 8) == WASI_TRAP_POINTER, "a shorter memory");
     need(wasi_fd_seek(&sandbox, memory, PAGE, 4, -1, 2, 24) == 0 && memory[24] == 2, "an offset below 0");
     need(wasi_proc_exit(&sandbox, memory, PAGE, 125) == WASI_EXIT, "an exit");
-    need(wasi_answered(&sandbox) == 5, "how many were answered: three had no place for their result, and weren't made");
+    need(wasi_sched_yield(&sandbox, memory, PAGE) == WASI_EXIT, "a call after it");
+    need(wasi_answered(&sandbox) == 4, "how many were answered");
     wasi_end(&sandbox);
-    need(strcmp(wasi_code_text(WASI_ERRNO_BADF), "badf: the descriptor isn't open, or isn't of the right kind") == 0, "a text");
-    need(strcmp(wasi_code_text(WASI_TRAP_EXIT), "the guest ended with a status of 126 or more") == 0, "a text of our own");
-    need(strcmp(wasi_code_text(255), "no answer has this number") == 0, "the text of no answer");
     start(&sandbox, SCRIPT);
     need(wasi_proc_exit(&sandbox, memory, PAGE, 126) == WASI_TRAP_EXIT, "a status that traps");
+    need(wasi_proc_exit(&sandbox, memory, PAGE, 3) == WASI_TRAP_EXIT, "an exit after it");
     wasi_end(&sandbox);
     free(memory);
+}
+
+static void of_texts(void) {
+    need(strcmp(wasi_code_text(WASI_ERRNO_NOENT), "noent: there is nothing of this name") == 0, "of an error number");
+    need(strcmp(wasi_code_text(WASI_TRAP_EXIT), "the guest ended with a status of 126 or more") == 0, "of a trap");
+    need(strcmp(wasi_code_text(255), "no answer has this number") == 0, "of no answer");
 }
 
 // A number of no call, and each call with a word too few, with just enough, and with words behind that count nothing.
@@ -131,10 +148,13 @@ static void of_numbers(void) {
     }
     need(wasi_answered(&sandbox) == 0, "none of these was answered");
     for (uint32_t number = 0; number < CALL_COUNT; number += 1) {
-        uint32_t code = wasi_call(&sandbox, memory, PAGE, number, words, strlen(calls[number].kinds));
+        wasi_sandbox other = {0};
+        start(&other, SCRIPT);
+        uint32_t code = wasi_call(&other, memory, PAGE, number, words, strlen(calls[number].kinds));
         need(code == WASI_EXIT || code < WASI_TRAP_POINTER, calls[number].name);
+        need(wasi_answered(&other) == 1, "it was answered");
+        wasi_end(&other);
     }
-    need(wasi_answered(&sandbox) == CALL_COUNT, "each of these was answered");
     const uint64_t more[] = {((uint64_t)7 << 32) + 77, 1, 2, 3, 4, 5, 6, 7, 8, 9, 10};
     need(wasi_call(&sandbox, memory, PAGE, 8, more, 11) == WASI_ERRNO_BADF, "the words behind the last");
     wasi_end(&sandbox);
@@ -229,6 +249,7 @@ int main(void) {
     of_starts();
     of_reports();
     of_results();
+    of_texts();
     of_numbers();
     of_two();
     of_quotas();

@@ -208,36 +208,77 @@ static void escapes(struct guest *guest) {
                                                   text(guest, PATH, "d"), 3, TEXT, text(guest, TEXT, "../d")), WASI_ERRNO_PERM);
 }
 
-/// A trap leaves the memory, and no answer is counted where an address of a result is the cause.
-static void traps(struct guest *guest) {
+static const char SCRIPT[] =
+    "{\"nodes\":[{\"dir\":{\"home\":1,\"secret\":2}},{\"dir\":{\"up\":3,\"root\":4}},{\"file\":\"736563726574\"},"
+    "{\"link\":\"../secret\"},{\"link\":\"/\"}],"
+    "\"preopens\":[{\"node\":1,\"name\":\"/home\",\"perms\":\"rw\"}],"
+    "\"args\":[\"guest\",\"-v\"],\"env\":[[\"LANG\",\"C\"]],\"random\":\"010203\",\"wall\":[1700000000,500],"
+    "\"wall_res\":[0,1000],\"mono\":250,\"calls\":[]}";
+
+/// A call with a stray address, by a descriptor of a file.
+static uint32_t stray(struct guest *guest, unsigned which, uint32_t fd) {
     wasi_sandbox *sandbox = &guest->sandbox;
-    uint8_t *memory = guest->memory, *was = malloc(guest->len);
+    uint8_t *memory = guest->memory;
     size_t len = guest->len;
-    if (!was) {
-        exit(1);
+    switch (which) {
+    case 0:
+        return wasi_fd_write(sandbox, memory, len, fd, BUFFER, 1, SECOND + 1);
+    case 1:
+        return wasi_fd_tell(sandbox, memory, len, fd, STAT + 4);
+    case 2:
+        return wasi_fd_write(sandbox, memory, len, fd, BUFFER, 1, len);
+    case 3:
+        return wasi_fd_filestat_get(sandbox, memory, len, fd, len - 56);
+    case 4:
+        return wasi_fd_tell(sandbox, memory, len, fd, 0xfffffff8);
+    case 5:
+        return wasi_args_sizes_get(sandbox, memory, len, ANSWER, len - 2);
+    case 6:
+        return wasi_fd_tell(sandbox, memory, 0, fd, 0);
+    case 7:
+        return wasi_fd_tell(sandbox, memory, len, 77, 1);
+    default:
+        return wasi_fd_write(sandbox, memory, len, fd, len - 4, 1, SECOND);
     }
-    hold("path_open", open_at(guest, "d/n", 0, RIGHT_WRITE), 0);
-    uint32_t fd = number(guest, ANSWER, 4);
-    buffer(guest, TEXT, 4);
-    memcpy(was, memory, len);
-    uint64_t answered = wasi_answered(sandbox);
-    hold("a result that isn't aligned", wasi_fd_write(sandbox, memory, len, fd, BUFFER, 1, SECOND + 1),
-         WASI_TRAP_POINTER);
-    hold("a result of 64 bits aligned to 4", wasi_fd_tell(sandbox, memory, len, fd, STAT + 4), WASI_TRAP_POINTER);
-    hold("a result behind the memory", wasi_fd_write(sandbox, memory, len, fd, BUFFER, 1, len), WASI_TRAP_POINTER);
-    hold("a result over its end", wasi_fd_filestat_get(sandbox, memory, len, fd, len - 56), WASI_TRAP_POINTER);
-    hold("a result at the last address", wasi_fd_tell(sandbox, memory, len, fd, 0xfffffff8), WASI_TRAP_POINTER);
-    hold("the second of two results", wasi_args_sizes_get(sandbox, memory, len, ANSWER, len - 2), WASI_TRAP_POINTER);
-    hold("a memory of no bytes", wasi_fd_tell(sandbox, memory, 0, fd, 0), WASI_TRAP_POINTER);
-    hold("no answer is counted", wasi_answered(sandbox), answered);
-    hold("a stray descriptor whose result is stray too", wasi_fd_tell(sandbox, memory, len, 77, 1), WASI_TRAP_POINTER);
-    hold("a buffer behind the memory", wasi_fd_write(sandbox, memory, len, fd, len - 4, 1, SECOND), WASI_TRAP_POINTER);
-    hold("it is counted", wasi_answered(sandbox), answered + 1);
-    hold("the memory stays", memcmp(memory, was, len), 0);
-    hold("fd_tell", wasi_fd_tell(sandbox, memory, len, fd, STAT), 0);
-    hold("nothing was written", number(guest, STAT, 8), 0);
-    hold("a result at the end of the memory", wasi_fd_tell(sandbox, memory, len, fd, len - 8), 0);
-    free(was);
+}
+
+static const char *const STRAYS[] = {
+    "a result that isn't aligned",
+    "a result of 64 bits aligned to 4",
+    "a result behind the memory",
+    "a result over its end",
+    "a result at the last address",
+    "the second of two results",
+    "a memory of no bytes",
+    "a stray descriptor whose result is stray too",
+    "a buffer behind the memory",
+};
+
+/// A trap leaves the memory, and each later call answers it again. It is counted only where the call was made, as with
+/// a stray buffer; with a stray result it isn't.
+static void traps(void) {
+    unsigned count = sizeof STRAYS / sizeof STRAYS[0];
+    for (unsigned which = 0; which < count; which++) {
+        struct guest guest = {{0}, calloc(PAGE, 1), PAGE};
+        uint8_t *was = malloc(PAGE);
+        if (!guest.memory || !was) {
+            exit(1);
+        }
+        hold("wasi_start", start(&guest, SCRIPT), 0);
+        hold("path_open", open_at(&guest, "n", 1, RIGHT_WRITE), 0);
+        uint32_t fd = number(&guest, ANSWER, 4);
+        buffer(&guest, TEXT, 4);
+        memcpy(was, guest.memory, PAGE);
+        hold(STRAYS[which], stray(&guest, which, fd), WASI_TRAP_POINTER);
+        uint64_t answered = wasi_answered(&guest.sandbox);
+        hold("how many are counted", answered, which + 1 == count ? 2 : 1);
+        hold("a call after a trap", wasi_fd_tell(&guest.sandbox, guest.memory, PAGE, fd, STAT), WASI_TRAP_POINTER);
+        hold("it isn't counted", wasi_answered(&guest.sandbox), answered);
+        hold("the memory stays", memcmp(guest.memory, was, PAGE), 0);
+        wasi_end(&guest.sandbox);
+        free(guest.memory);
+        free(was);
+    }
 }
 
 static int contains(const uint8_t *bytes, size_t len, const char *word) {
@@ -276,12 +317,6 @@ static void reports(struct guest *guest) {
 }
 
 int main(void) {
-    static const char SCRIPT[] =
-        "{\"nodes\":[{\"dir\":{\"home\":1,\"secret\":2}},{\"dir\":{\"up\":3,\"root\":4}},{\"file\":\"736563726574\"},"
-        "{\"link\":\"../secret\"},{\"link\":\"/\"}],"
-        "\"preopens\":[{\"node\":1,\"name\":\"/home\",\"perms\":\"rw\"}],"
-        "\"args\":[\"guest\",\"-v\"],\"env\":[[\"LANG\",\"C\"]],\"random\":\"010203\",\"wall\":[1700000000,500],"
-        "\"wall_res\":[0,1000],\"mono\":250,\"calls\":[]}";
     struct guest one = {{0}, calloc(PAGE, 1), PAGE}, other = {{0}, calloc(PAGE, 1), PAGE};
     if (!one.memory || !other.memory) {
         return 1;
@@ -294,7 +329,7 @@ int main(void) {
     files(&one);
     services(&one);
     escapes(&one);
-    traps(&one);
+    traps();
     hold("what one made isn't in the other", open_at(&other, "d", 0, RIGHT_READ), WASI_ERRNO_NOENT);
     hold("the other has answered one call", wasi_answered(&other.sandbox), 1);
 
@@ -305,12 +340,15 @@ int main(void) {
     one.memory = more;
     one.len = 2 * PAGE;
     memset(one.memory + PAGE, 0, PAGE);
+    hold("a result at the end of the memory", wasi_args_sizes_get(&one.sandbox, one.memory, one.len, ANSWER, 2 * PAGE - 4), 0);
     hold("a result in memory that grew", wasi_fd_tell(&one.sandbox, one.memory, one.len, 1, PAGE), WASI_ERRNO_SPIPE);
     hold("sched_yield", wasi_sched_yield(&one.sandbox, one.memory, one.len), 0);
     reports(&one);
 
     hold("proc_exit", wasi_proc_exit(&one.sandbox, one.memory, one.len, 3), WASI_EXIT);
     hold("it ends the guest", wasi_ends_guest(WASI_EXIT), 1);
+    hold("a call after it", wasi_sched_yield(&one.sandbox, one.memory, one.len), WASI_EXIT);
+    hold("an exit after it", wasi_proc_exit(&one.sandbox, one.memory, one.len, 126), WASI_EXIT);
     hold("proc_exit with 126", wasi_proc_exit(&other.sandbox, other.memory, other.len, 126), WASI_TRAP_EXIT);
     wasi_end(&one.sandbox);
     hold("an ended sandbox is empty", one.sandbox.at == 0, 1);

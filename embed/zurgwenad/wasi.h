@@ -39,7 +39,10 @@ typedef struct {
 /// written, what it has used of its quotas, and the tree. The host calls that were made keep their numbers for the
 /// script's `faults`, the nodes that they came to are told as touched, and one answer more is counted, but for
 /// WASI_NO_MEMORY. A call whose result has no place in the memory isn't made: it is WASI_TRAP_POINTER too, and nothing
-/// changes.
+/// changes, but that the guest is stopped.
+///
+/// After a number from WASI_TRAP_POINTER to WASI_EXIT the guest's run has ended: each later call answers the same number
+/// again, and nothing changes.
 enum {
     /// The guest gave an address outside its memory, or one that isn't aligned.
     WASI_TRAP_POINTER = 256,

@@ -118,6 +118,7 @@ fn low(word: u64) -> u32
 /// The call of a number with these words as its arguments, `None` where there is no such call. Of a word for an
 /// argument of 32 bits the low 32 count, and one for an argument with a sign is its two's complement. The words after
 /// the last argument count nothing.
+#[inline(always)]
 #[tactic(auto, unfolding(crate::specs::CallTable::call_of_words))]
 pub fn call_of_words(number: usize, words: &[u64; 8]) -> Option<Call>
     ensures { result ≡ table.call_of_words number words.now }

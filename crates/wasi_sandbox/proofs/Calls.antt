@@ -1,5 +1,5 @@
 -- What is said of a call of the context, over the sandbox that gave it its fuel.
-use Rattle.std.proofs.Common.{◌≡◌, ℕ, Bool, true, List, Result, Ok, Err, refl, subst}
+use Rattle.std.proofs.Common.{◌≡◌, ℕ, Bool, true, List, None, Result, Ok, Err, refl, subst}
 use Rattle.std.specs.Prelude.{IfSome, IsTrue}
 use Rattle.wasi_host_faults.specs.Faults.{Failing, counted}
 use Rattle.wasi_guest.specs.declared.answer.Value.{Value}
@@ -18,6 +18,7 @@ use Rattle.wasi_p1_model.specs.Unchanged.{LeavesAll}
 use Rattle.wasi_p1_types.specs.declared.error.P1Error.{P1Error}
 use Rattle.wasi_p1_model.proofs.Confining.{turn_confines}
 use Rattle.wasi_p1_model.proofs.Unchanged.{any_fuel}
+use Rattle.wasi_sandbox.specs.Ending.{end_of}
 use Rattle.wasi_sandbox.specs.Calling.{answered_after, fueled, model_in, Called}
 use Rattle.wasi_sandbox.specs.declared.sandbox.Sandbox.{Sandbox}
 
@@ -73,11 +74,11 @@ leaves_all seen s new before after (Err error) leaves = λ other. any_fuel (leav
 pub called : {T : Type 0} {seen : T → MemState} {modelled : Bool} {model : T → HostModel} {live : T → Handles}
     {lookups : T → List Lookup} {faults : T → FaultCount} (s : Sandbox T) (new : View (Failing T)) (before after : List ℕ)
     (call : Call) (result : Result Value P1Error)
-    → IsSeen seen modelled model live lookups faults
+    → s.ended ≡ None → IsSeen seen modelled model live lookups faults
     → Did (fueled s) new before after call result modelled model live lookups faults
-    → Called seen s (record { context = new; fuel = s.fuel; answered = answered_after s.answered result })
+    → Called seen s (record { context = new; fuel = s.fuel; answered = answered_after s.answered result; ended = end_of result })
     before after call result
-called {T} {seen} s new before after call result is did =
+called {T} {seen} s new before after call result running is did =
     let all = by_seen (Did (fueled s) new before after call result) is did in
     record {
       cause = all.cause;
@@ -91,4 +92,6 @@ called {T} {seen} s new before after call result is did =
       confined = λ start was. turn_confines (all.turn.turn refl) was;
       fuel = refl;
       answered = refl;
+      running = running;
+      ended = refl;
     }

@@ -1,5 +1,5 @@
 -- What a call of a sandbox does.
-use Rattle.std.specs.Prelude.{◌≡◌, ℕ, ◌+◌, ◌-◌, ◌^◌, true, false, List, length, min, Result, Err, IfSome}
+use Rattle.std.specs.Prelude.{◌≡◌, ℕ, ◌+◌, ◌-◌, ◌^◌, true, false, List, length, min, None, Some, Result, Err, IfSome}
 use Rattle.wasi_host_faults.specs.Faults.{Failing, counted}
 use Rattle.wasi_guest.specs.declared.answer.TrapKind.TheVariants.{Pointer}
 use Rattle.wasi_guest.specs.declared.answer.Value.{Value}
@@ -17,6 +17,9 @@ use Rattle.wasi_p1_types.specs.Slots.{View}
 use Rattle.wasi_p1_model.specs.Unchanged.{LeavesAll}
 use Rattle.wasi_p1_types.specs.declared.error.P1Error.{P1Error}
 use Rattle.wasi_p1_types.specs.declared.error.P1Error.TheVariants.{Memory, Trap}
+use Rattle.wasi_sandbox.specs.Ending.{end_of, error_of}
+use Rattle.wasi_sandbox.specs.declared.guest_end.GuestEnd.{GuestEnd}
+use Rattle.wasi_sandbox.specs.declared.guest_end.GuestEnd.TheVariants as ends
 use Rattle.wasi_sandbox.specs.Shapes.{has_room, shape_of, with_answer}
 use Rattle.wasi_sandbox.specs.declared.result_layout.ResultAddresses.{ResultAddresses}
 use Rattle.wasi_tree.specs.MemState.{MemState, live_of, model_of}
@@ -61,9 +64,10 @@ StaysConfined seen old new before after = (start : State)
     → Confined start (state_with seen old before) (seen old.context.host.inner).touched
     → Confined start (state_with seen new after) (seen new.context.host.inner).touched
 
--- What a call does, from a sandbox over a tree that is seen so, and the memory that is lent, to those after it: what is
--- said of the method of its name, with the fuel of a call, but for what the laws of turns say of its turn. A valid call is answered, unless the host failed or memory was
--- wanted; no error number comes but those that may; what is come to stays in reach
+-- What a call that is made does, from a sandbox over a tree that is seen so, and the memory that is lent, to those after it:
+-- what is said of the method of its name, with the fuel of a call, but for what the laws of turns say of its turn. A valid
+-- call is answered, unless the host failed or memory ran out; no error number comes but those that may; what is accessed
+-- stays in reach; a trap, or the guest's own end, ends its run
 pub record Called {T : Type 0} (seen : T → MemState) (old new : Sandbox T) (before after : List ℕ) (call : Call)
     (result : Result Value P1Error) : Type 0 where
   pub cause : Causes (faults_in old.context.host) (faults_in new.context.host) result
@@ -78,12 +82,26 @@ pub record Called {T : Type 0} (seen : T → MemState) (old new : Sandbox T) (be
   pub confined : StaysConfined seen old new before after
   pub fuel : new.fuel ≡ old.fuel
   pub answered : new.answered ≡ answered_after old.answered result
+  pub running : old.ended ≡ None
+  pub ended : new.ended ≡ end_of result
 
--- A call whose results go to addresses. Where one isn't aligned or a result would leave the memory, it traps and isn't
--- made; else it is made, and what it is answered stands there over the memory that it left
+-- A call. Where the guest's run has ended it is answered by that end, and nothing changes; else it is made
+pub data Calls {T : Type 0} (seen : T → MemState) (old new : Sandbox T) (before after : List ℕ) (call : Call)
+    : Result Value P1Error → Type 0 where
+  has_ended : {end : GuestEnd} → old.ended ≡ Some end → new ≡ old → after ≡ before
+      → Calls seen old new before after call (Err (error_of end))
+  is_made : {result : Result Value P1Error} → Called seen old new before after call result
+      → Calls seen old new before after call result
+
+-- A call whose results go to addresses. Where the guest's run has ended it is answered by that end. Where an address isn't
+-- aligned, or a result would leave the memory, it traps and isn't made, and ends the run. Else it is made, and what it is
+-- answered stands there over the memory that it left
 pub data CalledInto {T : Type 0} (seen : T → MemState) (old new : Sandbox T) (before after : List ℕ) (call : Call)
     (to : ResultAddresses) : Result Value P1Error → Type 0 where
-  no_room : has_room (length before) (shape_of call) to ≡ false → new ≡ old → after ≡ before
+  over : {end : GuestEnd} → old.ended ≡ Some end → new ≡ old → after ≡ before
+      → CalledInto seen old new before after call to (Err (error_of end))
+  no_room : old.ended ≡ None → has_room (length before) (shape_of call) to ≡ false
+      → new ≡ record old { ended = Some (ends.Trap Pointer) } → after ≡ before
       → CalledInto seen old new before after call to (Err (Trap Pointer))
   made : {result : Result Value P1Error} → has_room (length before) (shape_of call) to ≡ true → (memory : List ℕ)
       → Called seen old new before memory call result → after ≡ with_answer memory (shape_of call) to result

@@ -1,5 +1,5 @@
 -- How a sandbox is begun by a script.
-use Rattle.std.specs.Prelude.{◌≡◌, ◌==◌, ℕ, Bool, true, false, not, ◌&&◌, if◌then◌else◌, List, length, map, Result, Ok, Err, ⊤}
+use Rattle.std.specs.Prelude.{◌≡◌, ◌==◌, ℕ, Bool, true, false, not, ◌&&◌, if◌then◌else◌, List, length, map, None, Result, Ok, Err, ⊤}
 use Rattle.std.specs.FinSet.{empty}
 use Rattle.wasi_host.specs.Tree.{Tree}
 use Rattle.wasi_host.specs.declared.limits.Limits.{Limits}
@@ -34,6 +34,7 @@ pub record IsBegunBy {T : Type 0} (seen : T → MemState) (tree : Tree) (plan : 
   pub faults : s.context.host.calls ≡ record { faults = plan.faults; calls = 0 }
   pub fuel : s.fuel ≡ plan.fuel
   pub answered : s.answered ≡ 0
+  pub running : s.ended ≡ None
 
 -- bytes begin a sandbox where they are a script with a bare plan; else they are refused by their verdict, or as no bare
 -- one; or memory ran out

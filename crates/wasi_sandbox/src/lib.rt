@@ -6,6 +6,7 @@
 mod any;
 mod base;
 mod error;
+mod guest_end;
 mod records;
 mod result_layout;
 mod sandbox;
@@ -15,6 +16,7 @@ mod tree;
 pub use any::AnySandbox;
 pub use base::Base;
 pub use error::StartError;
+pub use guest_end::GuestEnd;
 pub use records::{fdstat_bytes, filestat_bytes, prestat_bytes};
 pub use result_layout::{ResultAddresses, Shape};
 pub use sandbox::Sandbox;

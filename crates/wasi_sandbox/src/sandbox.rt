@@ -1,13 +1,15 @@
 //! A context over a tree, whose guest's memory is lent for each call.
-ghost use Rattle.std.specs.Prelude.{◌≡◌, true, All, IfOk};
+ghost use Rattle.std.specs.Prelude.{◌≡◌, true, None, All, IfOk};
 ghost use Rattle.std.specs.FinSet.{contains, from_list};
 ghost use Rattle.std.specs.List.Sorted.{IsStrictlySortedBy};
 ghost use Rattle.std.specs.Ordering.{nat_cmp};
-ghost use Rattle.wasi_sandbox.specs.Calling.{answered_after, Called, CalledInto};
+ghost use Rattle.wasi_sandbox.specs.Calling.{answered_after, Called, CalledInto, Calls};
+ghost use Rattle.wasi_sandbox.specs.Ending.{end_of};
 ghost use Rattle.wasi_sandbox.specs.Telling.{Tells};
 ghost use Rattle.wasi_overlay.specs.Overlay.{IsFreshOn};
 ghost use Rattle.wasi_p1_types.specs.Quotas.{IsWithinQuota};
 
+use crate::guest_end::GuestEnd;
 use crate::result_layout::{ResultAddresses, Shape};
 use crate::tree::SandboxTree;
 use std::alloc::{AllocError, Global};
@@ -29,6 +31,8 @@ pub struct Sandbox<T: Host> {
     pub fuel: u64,
     /// How many calls were answered, refusals and traps among them; 2^64 - 1 where they are more.
     pub answered: u64,
+    /// How the guest's run ended, once it has. No call is made from then on.
+    pub ended: Option<GuestEnd>,
 }
 
 fn count_answer(answered: u64, outcome: Result<Value, P1Error>) -> u64
@@ -43,30 +47,54 @@ fn count_answer(answered: u64, outcome: Result<Value, P1Error>) -> u64
 impl<T: SandboxTree> Sandbox<T> {
     /// A sandbox of a guest's state in which nothing was called yet.
     pub(crate) fn of_state(state: P1State<FailAt<T>>, fuel: u64) -> Sandbox<T>
-        ensures { result ≡ record { context = state; fuel = fuel; answered = 0 } }
+        ensures { result ≡ record { context = state; fuel = fuel; answered = 0; ended = None } }
     {
         Sandbox {
             context: WasiP1Ctx::of(state),
             fuel,
             answered: 0,
+            ended: None,
         }
     }
 
     /// One call on the memory that is lent, by the specification of its name: the arguments are raw numbers, in the
     /// order of `wasi_snapshot_preview1`, and `docs/calls.md` says what each call refuses and answers. A refusal or a
-    /// trap leaves what is the guest's own.
+    /// trap leaves what is the guest's own. After a trap, and after `proc_exit`, each call answers the same again, and
+    /// nothing changes.
     pub fn call(&mut self, memory: &mut [u8], request: Call) -> Result<Value, P1Error>
+        ensures called { Calls T.seen self.old self.new memory.old memory.new request result }
+    {
+        if let Some(end) = self.ended {
+            return Err(end.error());
+        }
+        self.make(memory, request)
+    }
+
+    /// Makes a call of a guest whose run hasn't ended.
+    fn make(&mut self, memory: &mut [u8], request: Call) -> Result<Value, P1Error>
+        requires running { self.old.ended ≡ None }
         ensures called { Called T.seen self.old self.new memory.old memory.new request result }
     {
         self.context.set_hostcall_fuel(self.fuel);
         let outcome = call(&mut self.context, memory, request);
         self.answered = count_answer(self.answered, outcome);
+        self.note_end(outcome);
         outcome
     }
 
+    /// Keeps how the guest's run ended, where the call that was answered so ended it.
+    fn note_end(&mut self, outcome: Result<Value, P1Error>)
+        requires running { self.old.ended ≡ None }
+        ensures noted { self.new ≡ record self.old { ended = end_of outcome } }
+    {
+        if let Err(error) = outcome {
+            self.ended = GuestEnd::of(error);
+        }
+    }
+
     /// The same, and then what was answered is put in the memory at the addresses of its results, as preview1 lays it
-    /// out. Where one of these isn't aligned or a result would leave the memory, the call traps before it is made: all
-    /// stands as before, and no answer is counted.
+    /// out. Where one of these isn't aligned or a result would leave the memory, the call traps before it is made: the
+    /// guest's run ends, all else is as before, and no answer is counted.
     pub fn call_into(
         &mut self,
         memory: &mut [u8],
@@ -75,11 +103,15 @@ impl<T: SandboxTree> Sandbox<T> {
     ) -> Result<Value, P1Error>
         ensures called { CalledInto T.seen self.old self.new memory.old memory.new request to result }
     {
+        if let Some(end) = self.ended {
+            return Err(end.error());
+        }
         let shape = Shape::of(request);
         if !shape.has_room(memory, to) {
+            self.ended = Some(GuestEnd::Trap(TrapKind::Pointer));
             return Err(P1Error::Trap(TrapKind::Pointer));
         }
-        let value = self.call(memory, request)?;
+        let value = self.make(memory, request)?;
         shape.put(memory, to, value);
         Ok(value)
     }

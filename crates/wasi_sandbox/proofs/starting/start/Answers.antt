@@ -36,6 +36,6 @@ returns c =
         plan c.in_ok-script.script,
         c.in_ok-script.ensures.verdict,
         sym c.has_no_guest.ensures ∙ c.if-not-has_no_guest.false,
-        record { begun = begins.begun; faults = begins.faults; fuel = begins.fuel; answered = refl },
+        record { begun = begins.begun; faults = begins.faults; fuel = begins.fuel; answered = refl; running = refl },
       );
     })

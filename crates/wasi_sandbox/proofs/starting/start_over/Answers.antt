@@ -21,6 +21,6 @@ returns c =
       starts = (
         _,
         c.in_ok-session.ensures.judged,
-        record { begun = begins.begun; faults = begins.faults; fuel = begins.fuel; answered = refl },
+        record { begun = begins.begun; faults = begins.faults; fuel = begins.fuel; answered = refl; running = refl },
       );
     })

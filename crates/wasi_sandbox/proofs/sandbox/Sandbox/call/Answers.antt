@@ -1,28 +1,9 @@
-use Rattle.wasi_sandbox.proofs.Calls.{called, Did, IsSeen}
+use Rattle.std.proofs.Common.{refl}
+use Rattle.wasi_sandbox.specs.Calling.{has_ended, is_made}
 use Rattle.wasi_sandbox.proofs.sandbox.Sandbox.call.Goals as goal
 
+pub returns-in-Some : goal.returns-in-Some
+returns-in-Some g c = record { called = rw c.error.ensures (has_ended c.in-Some.is refl refl) }
+
 pub returns : goal.returns
-returns g c =
-    let tree = g.met.T.ScriptTree in
-    let seen : IsSeen g.T.ScriptTree.seen g.T.Host.modelled g.T.Host.model g.T.Host.live g.T.Host.lookups g.T.Host.faults = record {
-      tells = tree.is_told;
-      models = tree.same_model;
-      lives = tree.same_live;
-      looks = tree.same_lookups;
-      quiet = tree.no_faults;
-    } in
-    let bounds = c.call-outcome.ensures.host_laws in
-    let did : Did _ c.call-outcome.new.context _ _ _ _ g.T.Host.modelled g.T.Host.model g.T.Host.live g.T.Host.lookups g.T.Host.faults = record {
-      cause = bounds.cause;
-      handles = bounds.handles;
-      provenance = bounds.provenance;
-      logged = bounds.logged;
-      unchanged = c.call-outcome.ensures.unchanged;
-      turn = c.call-outcome.ensures.spec;
-      complete = c.call-outcome.ensures.complete tree.is_told;
-      errnos = c.call-outcome.ensures.errnos tree.is_told;
-    } in
-    record {
-      called = rw (c.count_answer-self.ensures) (called c.args.self.now c.call-outcome.new.context _ _ _ _ seen
-          (rw c.set_hostcall_fuel.ensures.set at did));
-    }
+returns g c = record { called = is_made c.make.ensures.called }
