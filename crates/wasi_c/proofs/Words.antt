@@ -21,7 +21,7 @@ same_made (kind ∷ kinds) make place xs ys agree =
     (same_made kinds (make (number_of_word kind (slice_index ys place))) (place + 1) xs ys (λ i below. agree i (omega (arith, below))))
 
 same_made_by : (row : CallRow) (xs ys : List ℕ) → length (kinds_of row) ≤ 8 → Agree 8 xs ys → made_by row xs ≡ made_by row ys
-same_made_by (Takes kinds make) xs ys few agree = same_made kinds make 0 xs ys (λ i below. agree i (omega (arith, few, below)))
+same_made_by (Takes kinds make shape) xs ys few agree = same_made kinds make 0 xs ys (λ i below. agree i (omega (arith, few, below)))
 
 same_of_row : (found : Option (List ℕ × CallRow)) (xs ys : List ℕ) → IfSome found (λ row. length (kinds_of row.1) ≤ 8) → Agree 8 xs ys
     → option_map (λ row. made_by row.1 xs) found ≡ option_map (λ row. made_by row.1 ys) found

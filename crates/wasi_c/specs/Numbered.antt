@@ -1,11 +1,10 @@
 -- A call by its number.
 use Rattle.std.specs.Prelude.{◌≡◌, ℕ, ◌+◌, ◌%◌, ◌^◌, nat_le, if◌then◌else◌, List, length, Option, Some, None, option_and_then, slice_index}
-use Rattle.wasi_call_table.specs.CallTable.{call_kinds, call_of_words}
+use Rattle.wasi_call_table.specs.CallTable.{call_kinds, call_of_words, call_shape}
 use Rattle.wasi_guest.specs.declared.call.Call.{Call}
-use Rattle.wasi_sandbox.specs.Shapes.{shape_of}
-use Rattle.wasi_sandbox.specs.declared.result_layout.ResultAddresses.{ResultAddresses}
-use Rattle.wasi_sandbox.specs.declared.result_layout.Shape.{Shape}
-use Rattle.wasi_sandbox.specs.declared.result_layout.Shape.TheVariants as shapes
+use Rattle.wasi_sandbox.specs.declared.result_layout.ResultLayout.{ResultLayout}
+use Rattle.wasi_call_table.specs.declared.shape.Shape.{Shape}
+use Rattle.wasi_call_table.specs.declared.shape.Shape.TheVariants as shapes
 use Rattle.wasi_c.specs.Held.{Held}
 use Rattle.wasi_c.specs.Told.{TellsCall}
 use Rattle.wasi_c.specs.declared.calls.Request.{Request}
@@ -21,24 +20,28 @@ result_count shape = 1
 abbrev pub address_at : List ℕ → ℕ → ℕ
 address_at words place = slice_index words place % 2 ^ 32
 
--- the addresses of a call's results, which the words from a place on are
-abbrev pub places_at : List ℕ → ℕ → Shape → ResultAddresses
-places_at words place shapes.Nothing = record { first = 0; second = 0 }
-places_at words place shapes.TwoU32 = record { first = address_at words place; second = address_at words (place + 1) }
-places_at words place shapes.U32AndU16 = record { first = address_at words place; second = address_at words (place + 1) }
-places_at words place shape = record { first = address_at words place; second = 0 }
+-- the results of a call, at the addresses that the words from a place on are
+abbrev pub laid_out : List ℕ → ℕ → Shape → ResultLayout
+laid_out words place shapes.Nothing = record { shape = shapes.Nothing; first = 0; second = 0 }
+laid_out words place shapes.TwoU32 =
+    record { shape = shapes.TwoU32; first = address_at words place; second = address_at words (place + 1) }
+laid_out words place shapes.U32AndU16 =
+    record { shape = shapes.U32AndU16; first = address_at words place; second = address_at words (place + 1) }
+laid_out words place shape = record { shape = shape; first = address_at words place; second = 0 }
 
--- a call with so many arguments, and the addresses after them, where there are as many words as it wants
-abbrev pub requested_by : List ℕ → ℕ → Call → Option Request
-requested_by words arguments call =
-    if nat_le (arguments + result_count (shape_of call)) (length words)
-    then Some (record { call = call; to = places_at words arguments (shape_of call) })
+-- a call with so many arguments and results of this shape, whose addresses stand after the arguments, where there are as
+-- many words as it wants
+abbrev pub requested_by : List ℕ → ℕ → Shape → Call → Option Request
+requested_by words arguments shape call =
+    if nat_le (arguments + result_count shape) (length words)
+    then Some (record { call = call; to = laid_out words arguments shape })
     else None
 
--- what a number and words ask for: the call of the number with these words as its arguments, and the addresses of its results
+-- what a number and words ask for: the call of the number with these words as its arguments, and where its results go
 abbrev pub requested : ℕ → List ℕ → Option Request
 requested number words =
-    option_and_then (λ kinds. option_and_then (requested_by words (length kinds)) (call_of_words number words)) (call_kinds number)
+    option_and_then (λ kinds. option_and_then (λ shape. option_and_then (requested_by words (length kinds) shape) (call_of_words number words))
+    (call_shape number)) (call_kinds number)
 
 -- what is asked for is answered; where nothing is, all stays, and the code is one of its own
 abbrev pub TellsRequested : Held → Held → List ℕ → List ℕ → Option Request → ℕ → Type 0

@@ -6,7 +6,7 @@ use Rattle.std.specs.Ordering.{nat_cmp}
 use Rattle.wasi_guest.specs.declared.answer.Value.{Value}
 use Rattle.wasi_guest.specs.declared.call.Call.{Call}
 use Rattle.wasi_p1_types.specs.declared.error.P1Error.{P1Error}
-use Rattle.wasi_sandbox.specs.declared.result_layout.ResultAddresses.{ResultAddresses}
+use Rattle.wasi_sandbox.specs.declared.result_layout.ResultLayout.{ResultLayout}
 use Rattle.wasi_tree.specs.MemState.{MemState}
 use Rattle.wasi_overlay.specs.Overlay.{IsFreshOn}
 use Rattle.wasi_sandbox.specs.Any.{one_of, Becomes}
@@ -36,13 +36,13 @@ Holds None P = ⊥
 Holds (Some s) P = P (one_of s)
 
 -- a call whose results go to these addresses, and the number of its answer
-pub record CallTold (o w : Sandbox MemState) (before after : List ℕ) (call : Call) (to : ResultAddresses) (code : ℕ) : Type 0 where
+pub record CallTold (o w : Sandbox MemState) (before after : List ℕ) (call : Call) (to : ResultLayout) (code : ℕ) : Type 0 where
   pub result : Result Value P1Error
   pub called : CalledInto seen o w before after call to result
   pub code_is : code ≡ code_of result
 
 -- the same of what a handle holds
-abbrev pub TellsCall : Held → Held → List ℕ → List ℕ → Call → ResultAddresses → ℕ → Type 0
+abbrev pub TellsCall : Held → Held → List ℕ → List ℕ → Call → ResultLayout → ℕ → Type 0
 TellsCall old new before after call to code = Both old new (λ o w. CallTold o w before after call to code)
 
 -- a sandbox was begun by a script, or why none was

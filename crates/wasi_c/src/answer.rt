@@ -4,7 +4,7 @@ ghost use Rattle.wasi_c.specs.Told.{TellsCall};
 
 use crate::codes::code_of;
 use crate::handle::SandboxHandle;
-use wasi_sandbox::{Call, ResultAddresses};
+use wasi_sandbox::{Call, ResultLayout};
 
 /// One call on the memory that is lent, and the number of its answer.
 pub fn call_in(
@@ -12,7 +12,7 @@ pub fn call_in(
     empty: SandboxHandle,
     memory: &mut [u8],
     request: Call,
-    to: ResultAddresses,
+    to: ResultLayout,
 ) -> u32
     requires held { IsSome sandbox.old.value }
     requires empty { empty.value ≡ None }

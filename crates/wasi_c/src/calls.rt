@@ -1,19 +1,19 @@
 //! The calls of a guest: one function for all 46, which takes a call's number and its words.
 ghost use Rattle.std.specs.Prelude.{◌≡◌, ◌≤◌, ◌+◌, ◌%◌, ◌^◌, length, None, IsSome};
 ghost use Rattle.wasi_call_table.specs.CallTable.{call_of_words};
-ghost use Rattle.wasi_c.specs.Numbered.{places_at, requested, result_count, TellsNumbered};
+ghost use Rattle.wasi_c.specs.Numbered.{laid_out, requested, result_count, TellsNumbered};
 
 use crate::answer::call_in;
 use crate::codes::NO_CALL;
 use crate::handle::SandboxHandle;
 use std::alloc::Global;
-use wasi_call_table::{call_kinds, call_of_words};
-use wasi_sandbox::{Call, ResultAddresses, Shape};
+use wasi_call_table::{Shape, call_kinds, call_of_words, call_shape};
+use wasi_sandbox::{Call, ResultLayout};
 
-/// A call, and the addresses of its results.
+/// A call, and where its results go.
 struct Request {
     call: Call,
-    to: ResultAddresses,
+    to: ResultLayout,
 }
 
 /// How many results a call has, each at an address of its own.
@@ -34,24 +34,20 @@ fn address(word: u64) -> u32
     (word % 4_294_967_296) as u32
 }
 
-/// The addresses of a call's results, which the words from a place on are.
-fn places_at(words: &[u64], place: usize, shape: Shape) -> ResultAddresses
+/// The results of a call, at the addresses that the words from a place on are.
+fn laid_out(words: &[u64], place: usize, shape: Shape) -> ResultLayout
     requires { place + result_count shape ≤ length words.now }
-    ensures { result ≡ places_at words.now place shape }
+    ensures { result ≡ laid_out words.now place shape }
 {
-    match shape {
-        Shape::Nothing => ResultAddresses {
-            first: 0,
-            second: 0,
-        },
-        Shape::TwoU32 | Shape::U32AndU16 => ResultAddresses {
-            first: address(words[place]),
-            second: address(words[place + 1]),
-        },
-        _ => ResultAddresses {
-            first: address(words[place]),
-            second: 0,
-        },
+    let (first, second) = match shape {
+        Shape::Nothing => (0, 0),
+        Shape::TwoU32 | Shape::U32AndU16 => (address(words[place]), address(words[place + 1])),
+        _ => (address(words[place]), 0),
+    };
+    ResultLayout {
+        shape,
+        first,
+        second,
     }
 }
 
@@ -72,12 +68,12 @@ fn requested(number: usize, words: &[u64]) -> Option<Request>
     ensures { result ≡ requested number words.now }
 {
     let arguments = call_kinds(number)?.len();
+    let shape = call_shape(number)?;
     let call = call_by(number, words)?;
-    let shape = Shape::of(call);
     if words.len() < arguments + result_count(shape) {
         return None;
     }
-    let to = places_at(words, arguments, shape);
+    let to = laid_out(words, arguments, shape);
     Some(Request { call, to })
 }
 

@@ -4,6 +4,7 @@ ghost use Rattle.std.specs.List.{position};
 ghost use Rattle.std.specs.Str.{bytes_eq};
 ghost use Rattle.wasi_call_table.specs.CallTable as table;
 
+use crate::shape::Shape;
 use wasi_guest::Call;
 
 /// What an argument of a call is: a number of so many bits, with a sign or without one.
@@ -16,61 +17,78 @@ pub enum Kind {
 
 use Kind::{I64, U32, U64};
 
-// Each call by its name and the kinds of its arguments. Its place is its number.
-const CALLS: [(&str, &[Kind]); 46] = [
-    ("args_get", &[U32, U32]),
-    ("args_sizes_get", &[]),
-    ("environ_get", &[U32, U32]),
-    ("environ_sizes_get", &[]),
-    ("clock_res_get", &[U32]),
-    ("clock_time_get", &[U32, U64]),
-    ("fd_advise", &[U32, U64, U64, U32]),
-    ("fd_allocate", &[U32, U64, U64]),
-    ("fd_close", &[U32]),
-    ("fd_datasync", &[U32]),
-    ("fd_sync", &[U32]),
-    ("fd_fdstat_get", &[U32]),
-    ("fd_fdstat_set_flags", &[U32, U32]),
-    ("fd_fdstat_set_rights", &[U32, U64, U64]),
-    ("fd_filestat_get", &[U32]),
-    ("fd_filestat_set_size", &[U32, U64]),
-    ("fd_filestat_set_times", &[U32, U64, U64, U32]),
-    ("fd_pread", &[U32, U32, U32, U64]),
-    ("fd_prestat_get", &[U32]),
-    ("fd_prestat_dir_name", &[U32, U32, U32]),
-    ("fd_pwrite", &[U32, U32, U32, U64]),
-    ("fd_read", &[U32, U32, U32]),
-    ("fd_readdir", &[U32, U32, U32, U64]),
-    ("fd_renumber", &[U32, U32]),
-    ("fd_seek", &[U32, I64, U32]),
-    ("fd_tell", &[U32]),
-    ("fd_write", &[U32, U32, U32]),
-    ("path_create_directory", &[U32, U32, U32]),
-    ("path_filestat_get", &[U32, U32, U32, U32]),
+// Each call by its name, the kinds of its arguments and the shape of its results. Its place is its number.
+const CALLS: [(&str, &[Kind], Shape); 46] = [
+    ("args_get", &[U32, U32], Shape::Nothing),
+    ("args_sizes_get", &[], Shape::TwoU32),
+    ("environ_get", &[U32, U32], Shape::Nothing),
+    ("environ_sizes_get", &[], Shape::TwoU32),
+    ("clock_res_get", &[U32], Shape::U64),
+    ("clock_time_get", &[U32, U64], Shape::U64),
+    ("fd_advise", &[U32, U64, U64, U32], Shape::Nothing),
+    ("fd_allocate", &[U32, U64, U64], Shape::Nothing),
+    ("fd_close", &[U32], Shape::Nothing),
+    ("fd_datasync", &[U32], Shape::Nothing),
+    ("fd_sync", &[U32], Shape::Nothing),
+    ("fd_fdstat_get", &[U32], Shape::Fdstat),
+    ("fd_fdstat_set_flags", &[U32, U32], Shape::Nothing),
+    ("fd_fdstat_set_rights", &[U32, U64, U64], Shape::Nothing),
+    ("fd_filestat_get", &[U32], Shape::Filestat),
+    ("fd_filestat_set_size", &[U32, U64], Shape::Nothing),
+    (
+        "fd_filestat_set_times",
+        &[U32, U64, U64, U32],
+        Shape::Nothing,
+    ),
+    ("fd_pread", &[U32, U32, U32, U64], Shape::U32),
+    ("fd_prestat_get", &[U32], Shape::Prestat),
+    ("fd_prestat_dir_name", &[U32, U32, U32], Shape::Nothing),
+    ("fd_pwrite", &[U32, U32, U32, U64], Shape::U32),
+    ("fd_read", &[U32, U32, U32], Shape::U32),
+    ("fd_readdir", &[U32, U32, U32, U64], Shape::U32),
+    ("fd_renumber", &[U32, U32], Shape::Nothing),
+    ("fd_seek", &[U32, I64, U32], Shape::U64),
+    ("fd_tell", &[U32], Shape::U64),
+    ("fd_write", &[U32, U32, U32], Shape::U32),
+    ("path_create_directory", &[U32, U32, U32], Shape::Nothing),
+    ("path_filestat_get", &[U32, U32, U32, U32], Shape::Filestat),
     (
         "path_filestat_set_times",
         &[U32, U32, U32, U32, U64, U64, U32],
+        Shape::Nothing,
     ),
-    ("path_link", &[U32, U32, U32, U32, U32, U32, U32]),
-    ("path_open", &[U32, U32, U32, U32, U32, U64, U64, U32]),
-    ("path_readlink", &[U32, U32, U32, U32, U32]),
-    ("path_remove_directory", &[U32, U32, U32]),
-    ("path_unlink_file", &[U32, U32, U32]),
-    ("path_rename", &[U32, U32, U32, U32, U32, U32]),
-    ("path_symlink", &[U32, U32, U32, U32, U32]),
-    ("poll_oneoff", &[U32, U32, U32]),
-    ("proc_exit", &[U32]),
-    ("proc_raise", &[U32]),
-    ("random_get", &[U32, U32]),
-    ("sched_yield", &[]),
-    ("sock_accept", &[U32, U32]),
-    ("sock_recv", &[U32, U32, U32, U32]),
-    ("sock_send", &[U32, U32, U32, U32]),
-    ("sock_shutdown", &[U32, U32]),
+    (
+        "path_link",
+        &[U32, U32, U32, U32, U32, U32, U32],
+        Shape::Nothing,
+    ),
+    (
+        "path_open",
+        &[U32, U32, U32, U32, U32, U64, U64, U32],
+        Shape::U32,
+    ),
+    ("path_readlink", &[U32, U32, U32, U32, U32], Shape::U32),
+    ("path_remove_directory", &[U32, U32, U32], Shape::Nothing),
+    ("path_unlink_file", &[U32, U32, U32], Shape::Nothing),
+    (
+        "path_rename",
+        &[U32, U32, U32, U32, U32, U32],
+        Shape::Nothing,
+    ),
+    ("path_symlink", &[U32, U32, U32, U32, U32], Shape::Nothing),
+    ("poll_oneoff", &[U32, U32, U32], Shape::U32),
+    ("proc_exit", &[U32], Shape::Nothing),
+    ("proc_raise", &[U32], Shape::Nothing),
+    ("random_get", &[U32, U32], Shape::Nothing),
+    ("sched_yield", &[], Shape::Nothing),
+    ("sock_accept", &[U32, U32], Shape::U32),
+    ("sock_recv", &[U32, U32, U32, U32], Shape::U32AndU16),
+    ("sock_send", &[U32, U32, U32, U32], Shape::U32),
+    ("sock_shutdown", &[U32, U32], Shape::Nothing),
 ];
 
 // The place of the first row of a name.
-fn place_in(table: &[(&str, &[Kind])], name: &str) -> Option<usize>
+fn place_in(table: &[(&str, &[Kind], Shape)], name: &str) -> Option<usize>
     ensures { result ≡ position (λ row. bytes_eq name.now row.0.now) table.now }
 {
     table.iter().position(|row| name == row.0)
@@ -91,7 +109,7 @@ pub fn call_number(name: &str) -> Option<usize>
 }
 
 // The kinds of the row at a place.
-fn kinds_in<'a>(table: &[(&str, &'a [Kind])], place: usize) -> Option<&'a [Kind]>
+fn kinds_in<'a>(table: &[(&str, &'a [Kind], Shape)], place: usize) -> Option<&'a [Kind]>
     ensures { option_map (λ kinds. kinds.now) result ≡ slice_get (map (λ row. row.1.now) table.now) place }
 {
     match table.get(place) {
@@ -106,6 +124,24 @@ pub fn call_kinds(number: usize) -> Option<&'static [Kind]>
     ensures few { IfSome result (λ kinds. length kinds.now ≤ 8) }
 {
     kinds_in(&CALLS, number)
+}
+
+// The shape of the row at a place.
+fn shape_in(table: &[(&str, &[Kind], Shape)], place: usize) -> Option<Shape>
+    ensures { result ≡ slice_get (map (λ row. row.2) table.now) place }
+{
+    match table.get(place) {
+        Some(row) => Some(row.2),
+        None => None,
+    }
+}
+
+/// The shape of the results of the call of a number, `None` where there is no such call.
+#[tactic(auto, unfolding(crate::specs::CallTable::call_shape))]
+pub fn call_shape(number: usize) -> Option<Shape>
+    ensures { result ≡ table.call_shape number }
+{
+    shape_in(&CALLS, number)
 }
 
 // The low 32 bits of a word.

@@ -60,7 +60,7 @@ found_at name rows =
 made_by_row : (row : CallRow) (kinds : List Kind) (found : Option (List ℕ)) (ds : Items) → kinds ≡ kinds_of row
     → ((make : Maker kinds) → option_map (λ words. made_of kinds make 0 words) found ≡ call_made kinds make ds)
     → option_map (λ words. made_by row words) found ≡ call_by row ds
-made_by_row (Takes ks make) kinds found ds is same =
+made_by_row (Takes ks make shape) kinds found ds is same =
     let P : List Kind → Type 0 =
     λ k. ((m : Maker k) → option_map (λ words. made_of k m 0 words) found ≡ call_made k m ds) in
     subst P is same make

@@ -31,7 +31,7 @@ call_made (kind ∷ kinds) make ds = first_number kind ds >>= (λ first. call_ma
 
 -- the call of a row with these arguments
 abbrev pub call_by : CallRow → Items → Option Call
-call_by (Takes kinds make) ds = call_made kinds make ds
+call_by (Takes kinds make shape) ds = call_made kinds make ds
 
 -- the call of a name with these arguments
 unfoldable pub call_with : List ℕ → Items → Option Call

@@ -95,7 +95,7 @@ made_flat (kind ∷ kinds) make (item d ds) =
     (before_same (number_of kind d) (flat_items ds) ds (λ n es. call_made kinds (make n) es) (λ n. made_flat kinds (make n) ds))
 
 row_flat : (row : CallRow) (ds : Items) → call_by row (flat_items ds) ≡ call_by row ds
-row_flat (Takes kinds make) ds = made_flat kinds make ds
+row_flat (Takes kinds make shape) ds = made_flat kinds make ds
 
 found_flat : (row : Option CallRow) (ds : Items)
     → (row >>= (λ r. call_by r (flat_items ds))) ≡ (row >>= (λ r. call_by r ds))

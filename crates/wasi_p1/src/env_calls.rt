@@ -5,9 +5,10 @@ ghost use Rattle.wasi_p1_model.specs.Method.{KeepsHostLaws, MeetsSpec};
 use crate::ctx::WasiP1Ctx;
 use wasi_guest::Value;
 use wasi_host::Host;
-use wasi_p1_env_calls::{
+use wasi_p1_env_calls::polling::poll_oneoff;
+use wasi_p1_env_calls::services::{
     args_get, args_sizes_get, clock_res_get, clock_time_get, environ_get, environ_sizes_get,
-    poll_oneoff, proc_exit, proc_raise, random_get, sched_yield, sock_accept, sock_recv, sock_send,
+    proc_exit, proc_raise, random_get, sched_yield, sock_accept, sock_recv, sock_send,
     sock_shutdown,
 };
 use wasi_p1_types::P1Error;

@@ -5,10 +5,12 @@ ghost use Rattle.wasi_p1_model.specs.Method.{KeepsHostLaws, MeetsSpec};
 use crate::ctx::WasiP1Ctx;
 use wasi_guest::Value;
 use wasi_host::Host;
-use wasi_p1_fd_calls::{
+use wasi_p1_fd_calls::descriptors::{
     fd_close, fd_fdstat_get, fd_fdstat_set_flags, fd_fdstat_set_rights, fd_filestat_get,
-    fd_filestat_set_times, fd_prestat_dir_name, fd_prestat_get, fd_readdir, fd_renumber,
+    fd_prestat_dir_name, fd_prestat_get, fd_renumber,
 };
+use wasi_p1_fd_calls::listing::fd_readdir;
+use wasi_p1_fd_calls::times::fd_filestat_set_times;
 use wasi_p1_types::P1Error;
 
 impl<H: Host> WasiP1Ctx<H> {

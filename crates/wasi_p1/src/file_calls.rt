@@ -5,10 +5,10 @@ ghost use Rattle.wasi_p1_model.specs.Method.{KeepsHostLaws, MeetsSpec};
 use crate::ctx::WasiP1Ctx;
 use wasi_guest::Value;
 use wasi_host::Host;
-use wasi_p1_file_calls::{
-    fd_advise, fd_allocate, fd_datasync, fd_filestat_set_size, fd_pread, fd_pwrite, fd_read,
-    fd_seek, fd_sync, fd_tell, fd_write,
+use wasi_p1_file_calls::positions_and_sizes::{
+    fd_advise, fd_allocate, fd_datasync, fd_filestat_set_size, fd_seek, fd_sync, fd_tell,
 };
+use wasi_p1_file_calls::reading_and_writing::{fd_pread, fd_pwrite, fd_read, fd_write};
 use wasi_p1_types::P1Error;
 
 impl<H: Host> WasiP1Ctx<H> {

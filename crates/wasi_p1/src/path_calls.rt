@@ -5,10 +5,13 @@ ghost use Rattle.wasi_p1_model.specs.Method.{KeepsHostLaws, MeetsSpec};
 use crate::ctx::WasiP1Ctx;
 use wasi_guest::Value;
 use wasi_host::Host;
-use wasi_p1_path_calls::{
-    path_create_directory, path_filestat_get, path_filestat_set_times, path_link, path_open,
-    path_readlink, path_remove_directory, path_rename, path_symlink, path_unlink_file,
+use wasi_p1_path_calls::opening::path_open;
+use wasi_p1_path_calls::path_ops::{
+    path_create_directory, path_filestat_get, path_readlink, path_remove_directory, path_symlink,
+    path_unlink_file,
 };
+use wasi_p1_path_calls::times::path_filestat_set_times;
+use wasi_p1_path_calls::two_paths::{path_link, path_rename};
 use wasi_p1_types::P1Error;
 
 impl<H: Host> WasiP1Ctx<H> {

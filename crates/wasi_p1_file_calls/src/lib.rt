@@ -3,11 +3,6 @@
 
 mod file_ops;
 mod file_pieces;
-mod positions_and_sizes;
-mod reading_and_writing;
+pub mod positions_and_sizes;
+pub mod reading_and_writing;
 mod transfer;
-
-pub use positions_and_sizes::{
-    fd_advise, fd_allocate, fd_datasync, fd_filestat_set_size, fd_seek, fd_sync, fd_tell,
-};
-pub use reading_and_writing::{fd_pread, fd_pwrite, fd_read, fd_write};

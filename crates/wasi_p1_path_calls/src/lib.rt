@@ -3,18 +3,10 @@
 
 mod creations;
 mod entry_ops;
-mod opening;
+pub mod opening;
 mod opens;
-mod path_ops;
+pub mod path_ops;
 mod stat;
-mod times;
+pub mod times;
 mod two_path_ops;
-mod two_paths;
-
-pub use opening::path_open;
-pub use path_ops::{
-    path_create_directory, path_filestat_get, path_readlink, path_remove_directory, path_symlink,
-    path_unlink_file,
-};
-pub use times::path_filestat_set_times;
-pub use two_paths::{path_link, path_rename};
+pub mod two_paths;

@@ -20,8 +20,8 @@ use Rattle.wasi_p1_types.specs.declared.error.P1Error.TheVariants.{Memory, Trap}
 use Rattle.wasi_sandbox.specs.Ending.{end_of, error_of}
 use Rattle.wasi_sandbox.specs.declared.guest_end.GuestEnd.{GuestEnd}
 use Rattle.wasi_sandbox.specs.declared.guest_end.GuestEnd.TheVariants as ends
-use Rattle.wasi_sandbox.specs.Shapes.{has_room, shape_of, with_answer}
-use Rattle.wasi_sandbox.specs.declared.result_layout.ResultAddresses.{ResultAddresses}
+use Rattle.wasi_sandbox.specs.Results.{has_room, with_answer}
+use Rattle.wasi_sandbox.specs.declared.result_layout.ResultLayout.{ResultLayout}
 use Rattle.wasi_tree.specs.MemState.{MemState, live_of, model_of}
 use Rattle.wasi_sandbox.specs.declared.sandbox.Sandbox.{Sandbox}
 
@@ -93,16 +93,16 @@ pub data Calls {T : Type 0} (seen : T → MemState) (old new : Sandbox T) (befor
   is_made : {result : Result Value P1Error} → Called seen old new before after call result
       → Calls seen old new before after call result
 
--- A call whose results go to addresses. Where the guest's run has ended it is answered by that end. Where an address isn't
+-- A call whose results go to addresses, as what their shape says. Where the guest's run has ended it is answered by that end. Where an address isn't
 -- aligned, or a result would leave the memory, it traps and isn't made, and ends the run. Else it is made, and what it is
 -- answered stands there over the memory that it left
 pub data CalledInto {T : Type 0} (seen : T → MemState) (old new : Sandbox T) (before after : List ℕ) (call : Call)
-    (to : ResultAddresses) : Result Value P1Error → Type 0 where
+    (to : ResultLayout) : Result Value P1Error → Type 0 where
   over : {end : GuestEnd} → old.ended ≡ Some end → new ≡ old → after ≡ before
       → CalledInto seen old new before after call to (Err (error_of end))
-  no_room : old.ended ≡ None → has_room (length before) (shape_of call) to ≡ false
+  no_room : old.ended ≡ None → has_room (length before) to ≡ false
       → new ≡ record old { ended = Some (ends.Trap Pointer) } → after ≡ before
       → CalledInto seen old new before after call to (Err (Trap Pointer))
-  made : {result : Result Value P1Error} → has_room (length before) (shape_of call) to ≡ true → (memory : List ℕ)
-      → Called seen old new before memory call result → after ≡ with_answer memory (shape_of call) to result
+  made : {result : Result Value P1Error} → has_room (length before) to ≡ true → (memory : List ℕ)
+      → Called seen old new before memory call result → after ≡ with_answer memory to result
       → CalledInto seen old new before after call to result

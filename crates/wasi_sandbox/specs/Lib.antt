@@ -2,6 +2,6 @@ pub mod Any
 pub mod Calling
 pub mod Ending
 pub mod Records
-pub mod Shapes
+pub mod Results
 pub mod Starting
 pub mod Telling

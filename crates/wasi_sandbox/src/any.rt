@@ -6,7 +6,7 @@ ghost use Rattle.wasi_sandbox.specs.Telling.{Tells};
 ghost use Rattle.wasi_overlay.specs.Overlay.{IsFreshOn};
 ghost use Rattle.wasi_p1_types.specs.Quotas.{IsWithinQuota};
 
-use crate::result_layout::ResultAddresses;
+use crate::result_layout::ResultLayout;
 use crate::sandbox::Sandbox;
 use std::alloc::{AllocError, Global};
 use wasi_guest::QuotaUsed;
@@ -30,7 +30,7 @@ impl AnySandbox {
         &mut self,
         memory: &mut [u8],
         request: Call,
-        to: ResultAddresses,
+        to: ResultLayout,
     ) -> Result<Value, P1Error>
         ensures called { Becomes self.old self.new (λ o w. CalledInto (λ m. m) o w memory.old memory.new request to result) }
     {

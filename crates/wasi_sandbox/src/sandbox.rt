@@ -10,7 +10,7 @@ ghost use Rattle.wasi_overlay.specs.Overlay.{IsFreshOn};
 ghost use Rattle.wasi_p1_types.specs.Quotas.{IsWithinQuota};
 
 use crate::guest_end::GuestEnd;
-use crate::result_layout::{ResultAddresses, Shape};
+use crate::result_layout::ResultLayout;
 use crate::tree::SandboxTree;
 use std::alloc::{AllocError, Global};
 use wasi_guest::{Answers, QuotaUsed};
@@ -99,20 +99,19 @@ impl<T: SandboxTree> Sandbox<T> {
         &mut self,
         memory: &mut [u8],
         request: Call,
-        to: ResultAddresses,
+        to: ResultLayout,
     ) -> Result<Value, P1Error>
         ensures called { CalledInto T.seen self.old self.new memory.old memory.new request to result }
     {
         if let Some(end) = self.ended {
             return Err(end.error());
         }
-        let shape = Shape::of(request);
-        if !shape.has_room(memory, to) {
+        if !to.has_room(memory) {
             self.ended = Some(GuestEnd::Trap(TrapKind::Pointer));
             return Err(P1Error::Trap(TrapKind::Pointer));
         }
         let value = self.make(memory, request)?;
-        shape.put(memory, to, value);
+        to.put(memory, value);
         Ok(value)
     }
 
