@@ -109,7 +109,7 @@ class Sandbox {
     this.#imports = Object.freeze(native.imports(begun));
   }
 
-  /** The 46 functions of preview1. They work on the memory that was lent last, and throw `Trap` or `Exit`. */
+  /** The functions of preview1. They work on the memory that was lent last, and throw `Trap` or `Exit`. */
   get imports() {
     return this.#imports;
   }

@@ -1,5 +1,5 @@
-// The 46 calls of wasi.h as a table, for an engine that has a guest's arguments as a list of numbers: the call of a place
-// is made by `wasi_call` of that number.
+// The calls of wasi.h as a table, for an engine that has a guest's arguments as a list of numbers: the call of a place is
+// made by `wasi_call` of that number.
 #ifndef WASI_CALLS_H
 #define WASI_CALLS_H
 

@@ -194,7 +194,7 @@ static inline void wasi_end(wasi_sandbox *sandbox) {
 uint32_t wasi_c_call(wasi_sandbox *sandbox, wasi_sandbox empty, uint8_t *memory, size_t memory_len, uint32_t number,
         const uint64_t *words, size_t words_len);
 
-/// The call of a number, from 0 to 45, as calls.h and the functions below number them. Its words are its arguments, and
+/// The call of a number, from 0 on, as calls.h and the functions below number them. Its words are its arguments, and
 /// behind them the addresses of its results; of a word for 32 bits the low 32 count, and the words behind the last
 /// address count nothing. WASI_NO_CALL where no call has the number, or it wants more words, and then nothing changes.
 /// The pointer to the words isn't null, also where there are none.

@@ -1,66 +1,17 @@
-"""The 46 calls of `wasi_snapshot_preview1` as one table, and the names of its numbers.
+"""The calls of `wasi_snapshot_preview1` as one table, which is read from calls.txt, and the names of its numbers.
 
-A row has a call's name, its arguments in order, each with its kind, and the kind of its answer. Names, kinds and
-numbers are those of the preview1 specification.
+Names, kinds and numbers are those of the preview1 specification.
 """
 
 from __future__ import annotations
 
+import re
 from dataclasses import dataclass
-from typing import Dict, List, Optional, Tuple
+from pathlib import Path
+from typing import Dict, Iterator, List, Optional, Tuple
 
 U32 = 2**32 - 1
 U64 = 2**64 - 1
-
-ROWS = """
-args_get                 argv:list argv_buf:address                                                        -> unit
-args_sizes_get                                                                                             -> sizes
-clock_res_get            id:clockid                                                                        -> time
-clock_time_get           id:clockid precision:number                                                       -> time
-environ_get              environ:list environ_buf:address                                                  -> unit
-environ_sizes_get                                                                                          -> sizes
-fd_advise                fd:fd offset:number len:number advice:advice                                      -> unit
-fd_allocate              fd:fd offset:number len:number                                                    -> unit
-fd_close                 fd:fd                                                                             -> unit
-fd_datasync              fd:fd                                                                             -> unit
-fd_fdstat_get            fd:fd                                                                             -> fdstat
-fd_fdstat_set_flags      fd:fd flags:fdflags                                                               -> unit
-fd_fdstat_set_rights     fd:fd fs_rights_base:rights fs_rights_inheriting:rights                           -> unit
-fd_filestat_get          fd:fd                                                                             -> filestat
-fd_filestat_set_size     fd:fd size:number                                                                 -> unit
-fd_filestat_set_times    fd:fd atim:time mtim:time fst_flags:fstflags                                      -> unit
-fd_pread                 fd:fd iovs:reads offset:number                                                    -> read
-fd_prestat_dir_name      fd:fd path:room                                                                   -> unit
-fd_prestat_get           fd:fd                                                                             -> prestat
-fd_pwrite                fd:fd iovs:writes offset:number                                                   -> written
-fd_read                  fd:fd iovs:reads                                                                  -> read
-fd_readdir               fd:fd buf:room cookie:number                                                      -> listed
-fd_renumber              fd:fd to:fd                                                                       -> unit
-fd_seek                  fd:fd offset:delta whence:whence                                                  -> position
-fd_sync                  fd:fd                                                                             -> unit
-fd_tell                  fd:fd                                                                             -> position
-fd_write                 fd:fd iovs:writes                                                                 -> written
-path_create_directory    fd:fd path:text                                                                   -> unit
-path_filestat_get        fd:fd flags:lookupflags path:text                                                 -> filestat
-path_filestat_set_times  fd:fd flags:lookupflags path:text atim:time mtim:time fst_flags:fstflags          -> unit
-path_link                old_fd:fd old_flags:lookupflags old_path:text new_fd:fd new_path:text             -> unit
-path_open                fd:fd dirflags:lookupflags path:text oflags:oflags fs_rights_base:rights \
-                         fs_rights_inheriting:rights fdflags:fdflags                                       -> fd
-path_readlink            fd:fd path:text buf:room                                                          -> read
-path_remove_directory    fd:fd path:text                                                                   -> unit
-path_rename              fd:fd old_path:text new_fd:fd new_path:text                                       -> unit
-path_symlink             old_path:text fd:fd new_path:text                                                 -> unit
-path_unlink_file         fd:fd path:text                                                                   -> unit
-poll_oneoff              in:subscriptions out:events nsubscriptions:count                                  -> events
-proc_exit                rval:status                                                                       -> none
-proc_raise               sig:signal                                                                        -> unit
-random_get               buf:room                                                                          -> unit
-sched_yield                                                                                                -> unit
-sock_accept              fd:fd flags:fdflags                                                               -> fd
-sock_recv                fd:fd ri_data:reads ri_flags:riflags                                              -> received
-sock_send                fd:fd si_data:writes si_flags:siflags                                             -> written
-sock_shutdown            fd:fd how:sdflags                                                                 -> unit
-"""
 
 # The bits of the sets, from bit 0 on.
 SETS: Dict[str, Tuple[str, ...]] = {
@@ -227,11 +178,14 @@ class Argument:
 
 @dataclass(frozen=True)
 class Row:
-    """A call: its name, its arguments in order, and the kind of its answer."""
+    """A call as calls.txt has it: `short` is its second line, and `about` its third."""
 
     name: str
     arguments: Tuple[Argument, ...]
+    results: Tuple[str, ...]
     answer: str
+    short: str
+    about: str
 
     @property
     def width(self) -> int:
@@ -257,14 +211,21 @@ class Row:
         return found
 
 
-def _row(line: str) -> Row:
-    name, rest = line.split(None, 1)
-    arguments, answer = rest.split("->")
-    pairs = [Argument(*word.split(":")) for word in arguments.split()]
-    return Row(name, tuple(pairs), answer.strip())
+def _row(head: str, short: str, about: str) -> Row:
+    call, told = head.split(" -> ")
+    name, *words = call.split()
+    *results, answer = re.split("[,:]", told)
+    arguments = [Argument(*word.split(":")) for word in words]
+    return Row(name, tuple(arguments), tuple(results), answer, short.strip(), about.strip())
 
 
-CALLS: Dict[str, Row] = {row.name: row for row in map(_row, ROWS.strip().splitlines())}
+def _rows() -> Iterator[Row]:
+    text = Path(__file__).resolve().with_name("calls.txt").read_text(encoding="utf-8").replace("\\\n", "")
+    lines = [line for line in text.splitlines() if line and not line.startswith("#")]
+    return map(_row, lines[::3], lines[1::3], lines[2::3])
+
+
+CALLS: Dict[str, Row] = {row.name: row for row in _rows()}
 _ERRNO_LINES = [line.split(None, 2) for line in ERRNOS.strip().splitlines()]
 ERRNO_NAMES: Dict[int, str] = {int(number): name for number, name, _ in _ERRNO_LINES}
 ERRNO_WORDS: Dict[str, str] = {name: words for _, name, words in _ERRNO_LINES}

@@ -16,57 +16,6 @@ from .folders import Folder
 from .scripts import MOST_QUOTA, PERMS, Mistake
 from .writing import Layout
 
-# A word, the call that it stands for, and what stands behind it, in order: names of the call's arguments. `path@fd` is
-# a path, which also says the descriptor; `?` may be left out; `..` is any number of names of flags. Then values of
-# arguments for which nothing stands there.
-SHORT = """
-open         path_open                path@fd ..              dirflags=symlink_follow
-close        fd_close                 fd
-read         fd_read                  fd iovs
-write        fd_write                 fd iovs
-pread        fd_pread                 fd iovs offset
-pwrite       fd_pwrite                fd iovs offset
-seek         fd_seek                  fd offset whence?       whence=set
-tell         fd_tell                  fd
-sync         fd_sync                  fd
-datasync     fd_datasync              fd
-advise       fd_advise                fd offset len advice
-allocate     fd_allocate              fd offset len
-truncate     fd_filestat_set_size     fd size
-fdstat       fd_fdstat_get            fd
-setflags     fd_fdstat_set_flags      fd ..
-setrights    fd_fdstat_set_rights     fd ..
-fstat        fd_filestat_get          fd
-stat         path_filestat_get        path@fd ..              flags=symlink_follow
-touch        path_filestat_set_times  path@fd ..              flags=symlink_follow
-ftouch       fd_filestat_set_times    fd ..
-prestat      fd_prestat_get           fd
-prestatname  fd_prestat_dir_name      fd path
-renumber     fd_renumber              fd to
-list         fd_readdir               fd buf cookie?
-mkdir        path_create_directory    path@fd
-rmdir        path_remove_directory    path@fd
-unlink       path_unlink_file         path@fd
-symlink      path_symlink             old_path new_path@fd
-readlink     path_readlink            path@fd buf
-link         path_link                old_path@old_fd new_path@new_fd ..
-rename       path_rename              old_path@fd new_path@new_fd
-args         args_get
-argsizes     args_sizes_get
-environ      environ_get
-environsizes environ_sizes_get
-clock        clock_time_get           id precision?
-clockres     clock_res_get            id
-random       random_get               buf
-poll         poll_oneoff              in
-exit         proc_exit                rval
-raise        proc_raise               sig
-yield        sched_yield
-accept       sock_accept              fd ..
-recv         sock_recv                fd ri_data ..
-send         sock_send                fd si_data
-shutdown     sock_shutdown            fd ..
-"""
 ROOM_ALIGN = 16  # so that dumps of buffers are easy to read
 ALIASES = {"read": "fd_read", "write": "fd_write", "follow": "symlink_follow"}
 NUMBERS = {"fuel": U64, "table": U32, "mono": U64, "mono_res": U64}
@@ -248,7 +197,7 @@ class Writer:
             else:
                 numbers = self.numbers(row, {place.name: token for place, token in zip(places, given)})
         else:
-            raise Mistake(f"unknown word {word!r}; there are {' '.join(WORDS)}, set, and the calls of preview1")
+            raise Mistake(f"unknown word {word!r}; there are {' '.join(sorted(WORDS))}, set, and the calls of preview1")
         self.calls.append([row.name] + numbers)
 
     def by_places(self, word: str, row: Row, places: List[str], values: Dict[str, Token],
@@ -402,12 +351,13 @@ def with_line(place: int, do: Any) -> None:
 
 
 def short_words() -> Dict[str, Tuple[Row, List[str], Dict[str, Token]]]:
+    """The call of each short word, the places after the word, and the defaults of arguments."""
     found = {}
-    for line in SHORT.strip().splitlines():
-        word, name, *rest = line.split()
+    for row in CALLS.values():
+        word, *rest = row.short.split()
         values = dict(value.split("=") for value in rest if "=" in value)
         places = [place for place in rest if "=" not in place]
-        found[word] = CALLS[name], places, {key: plain(value) for key, value in values.items()}
+        found[word] = row, places, {key: plain(value) for key, value in values.items()}
     return found
 
 
