@@ -32,4 +32,6 @@ abbrev pub start_code : StartError → ℕ
 start_code (starts.Refused refusal) = refusal_code refusal
 start_code starts.Guest = 275
 start_code starts.OwnTree = 276
+-- as of a script whose nodes are no tree
+start_code (starts.Nodes n) = 273
 start_code starts.Memory = 260

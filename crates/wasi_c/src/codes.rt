@@ -34,7 +34,7 @@ const REFUSED_JSON: u32 = 271;
 /// The script is JSON, and isn't of a script's shape.
 const REFUSED_SHAPE: u32 = 272;
 
-/// The script's nodes are no tree.
+/// The nodes are no tree, be they the script's or given.
 const REFUSED_TREE: u32 = 273;
 
 /// The script passes a limit.
@@ -88,6 +88,7 @@ pub fn start_code(error: StartError) -> u32
         StartError::Refused(refusal) => refusal_code(refusal),
         StartError::Guest => REFUSED_GUEST,
         StartError::OwnTree => REFUSED_OWN_TREE,
+        StartError::Nodes(_) => REFUSED_TREE,
         StartError::Memory => NO_MEMORY,
     }
 }

@@ -1,5 +1,5 @@
 -- How a sandbox is begun, by what was read of a script.
-use Rattle.std.proofs.Common.{◌≡◌, ◌<◌, ◌≤◌, ℕ, zero, suc, List, [], ◌∷◌, Bool, true, false, length, map, slice_get, slice_index_or, get_or, Ok, Err, refl, sym, ap, ◌∙◌, arith}
+use Rattle.std.proofs.Common.{◌≡◌, ◌<◌, ◌≤◌, ℕ, zero, suc, List, [], ◌∷◌, Bool, true, false, map, slice_get, slice_index_or, get_or, Ok, Err, refl, sym, ap, ◌∙◌, arith}
 use Rattle.std.specs.Prelude.{All}
 use Rattle.std.specs.FinMap as maps
 use Rattle.std.specs.FinSet.{empty}
@@ -7,9 +7,13 @@ use Rattle.std.specs.List.{list_all}
 use Rattle.std.proofs.lemmas.List.{length-map}
 use Rattle.std.proofs.lemmas.List.Folds.{list_all-map}
 use Rattle.wasi_host.specs.Tree.{Tree, Node, Content, File, Directory, Link, node_at, names_of, next_of, is_directory, stray}
-use Rattle.wasi_tree.specs.NodeData.{NodeData, data_of_content, data_of_node}
+use Rattle.wasi_host.specs.declared.limits.Limits.{Limits}
+use Rattle.wasi_tree.specs.NodeData.{NodeData, data_of_content, data_of_node, tree_of}
 use Rattle.wasi_tree.specs.NodeDataTests.{is_dir_content}
 use Rattle.wasi_tree.specs.MemState.{MemState}
+use Rattle.wasi_tree.specs.WellFormed.{AreFit, IsTreeCause}
+use Rattle.wasi_tree.specs.declared.errors.TreeError.{TreeError}
+use Rattle.wasi_tree.specs.declared.errors.TreeError.TheVariants as trees
 use Rattle.wasi_tree.specs.Viewed.{viewed_content, Views}
 use Rattle.wasi_tree.specs.declared.node.ContentView.{ContentView}
 use Rattle.wasi_tree.specs.declared.node.ContentView.TheVariants as views
@@ -28,8 +32,9 @@ use Rattle.wasi_form.proofs.Accepted.{limits_kept}
 use Rattle.wasi_setup.proofs.ToldNodes.{none_told, told_at}
 use Rattle.wasi_setup.specs.Start.{IsWithinOn}
 use Rattle.wasi_setup.proofs.Starts.{passes_at}
-use Rattle.wasi_sandbox.specs.Starting.{has_no_guest, has_no_tree, start_error, verdict_over, JudgesOver, StartsBy}
+use Rattle.wasi_sandbox.specs.Starting.{has_no_guest, has_no_tree, start_error, tree_start_error, verdict_over, IsBegunBy, JudgesOver, StartsBy, StartsOn}
 use Rattle.wasi_sandbox.specs.declared.error.StartError.TheVariants.{Refused, Guest, OwnTree}
+use Rattle.wasi_sandbox.specs.declared.sandbox.Sandbox.{Sandbox}
 
 -- bytes that are no script
 pub unbegun : {T : Type 0} (seen : T → MemState) (bytes : List ℕ) (error : ScriptError) → Reads (Err error) (IsVerdict bytes)
@@ -76,6 +81,25 @@ pub taken_over : (tree : Tree) (bytes : List ℕ) (d : Draft) → read_plan byte
     → has_no_guest (planned [] default_limits d.session) ≡ true
     → verdict_over tree bytes ≡ Ok (planned (map data_of_node tree.nodes) tree.limits d.session)
 taken_over tree bytes d is bare within alone = rw (is, bare, within, alone) refl
+
+-- ---- on nodes that are given
+
+pub no_tree_of : {T : Type 0} (seen : T → MemState) (limits : Limits) (nodes : List NodeData) (bytes : List ℕ)
+    (error : TreeError) → IsTreeCause limits nodes error → StartsOn seen limits nodes bytes (Err (tree_start_error error))
+no_tree_of seen limits nodes bytes (trees.Invalid n) cause = cause
+no_tree_of seen limits nodes bytes trees.Memory cause = tt
+
+-- no step has worked on a tree of nodes
+pub unworked : (tree : Tree) (nodes : List NodeData) (limits : Limits) → tree ≡ tree_of nodes limits
+    → record tree { worked = empty } ≡ tree
+unfolding tree_of
+unworked tree nodes limits is = rw is refl
+
+pub begun_on : {T : Type 0} (seen : T → MemState) (limits : Limits) (nodes : List NodeData) (bytes : List ℕ) (plan : Plan)
+    (s : Sandbox T) → AreFit limits nodes → verdict_over (tree_of nodes limits) bytes ≡ Ok plan
+    → IsBegunBy seen (tree_of nodes limits) plan s → StartsOn seen limits nodes bytes (Ok s)
+unfolding tree_of
+begun_on seen limits nodes bytes plan s fit is begun = (fit, (plan, is, begun))
 
 -- ---- its directories
 

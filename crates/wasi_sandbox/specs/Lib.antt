@@ -1,4 +1,5 @@
 pub mod Any
+pub mod Building
 pub mod Calling
 pub mod Ending
 pub mod Records

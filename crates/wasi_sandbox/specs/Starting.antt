@@ -3,8 +3,11 @@ use Rattle.std.specs.Prelude.{◌≡◌, ◌==◌, ℕ, Bool, true, false, not, 
 use Rattle.std.specs.FinSet.{empty}
 use Rattle.wasi_host.specs.Tree.{Tree}
 use Rattle.wasi_host.specs.declared.limits.Limits.{Limits}
-use Rattle.wasi_tree.specs.NodeData.{data_of_node, tree_of}
+use Rattle.wasi_tree.specs.NodeData.{NodeData, data_of_node, tree_of}
 use Rattle.wasi_tree.specs.MemState.{MemState}
+use Rattle.wasi_tree.specs.WellFormed.{AreFit, IsLowestUnfit}
+use Rattle.wasi_tree.specs.declared.errors.TreeError.{TreeError}
+use Rattle.wasi_tree.specs.declared.errors.TreeError.TheVariants as trees
 use Rattle.wasi_form.specs.LimitsForm.{default_limits}
 use Rattle.wasi_form.specs.Plan.{Plan, planned}
 use Rattle.wasi_form.specs.Verdict.{IsVerdict, read_plan}
@@ -16,13 +19,18 @@ use Rattle.wasi_form.specs.declared.script_reader.ScriptError.{ScriptError}
 use Rattle.wasi_form.specs.declared.script_reader.ScriptError.TheVariants as scripts
 use Rattle.wasi_setup.specs.Start.{seen_by, IsBegun}
 use Rattle.wasi_sandbox.specs.declared.error.StartError.{StartError}
-use Rattle.wasi_sandbox.specs.declared.error.StartError.TheVariants.{Refused, Guest, OwnTree, Memory}
+use Rattle.wasi_sandbox.specs.declared.error.StartError.TheVariants.{Refused, Guest, OwnTree, Nodes, Memory}
 use Rattle.wasi_sandbox.specs.declared.sandbox.Sandbox.{Sandbox}
 
 -- where bytes weren't taken as a script
 abbrev pub start_error : ScriptError → StartError
 start_error (scripts.Refused refusal) = Refused refusal
 start_error scripts.Memory = Memory
+
+-- where nodes weren't taken as a tree
+abbrev pub tree_start_error : TreeError → StartError
+tree_start_error (trees.Invalid n) = Nodes n
+tree_start_error trees.Memory = Memory
 
 -- a plan with no calls, no memory and nothing to be shown
 abbrev pub has_no_guest : Plan → Bool
@@ -44,6 +52,7 @@ StartsBy seen bytes (Ok s) = (plan : Plan) × IsVerdict bytes (Ok plan) × (has_
 StartsBy seen bytes (Err (Refused refusal)) = IsVerdict bytes (Err refusal)
 StartsBy seen bytes (Err Guest) = (plan : Plan) × IsVerdict bytes (Ok plan) × (has_no_guest plan ≡ false)
 StartsBy seen bytes (Err OwnTree) = ⊥
+StartsBy seen bytes (Err (Nodes n)) = ⊥
 StartsBy seen bytes (Err Memory) = ⊤
 
 -- ---- over a tree that stays
@@ -75,6 +84,7 @@ verdict_over tree bytes = over tree (read_plan bytes)
 -- what is run over a tree is that of the verdict, or the refusal is; or memory ran out
 abbrev pub JudgesOver : Tree → List ℕ → Result Session StartError → Type 0
 JudgesOver tree bytes (Ok session) = verdict_over tree bytes ≡ Ok (planned (map data_of_node tree.nodes) tree.limits session)
+JudgesOver tree bytes (Err (Nodes n)) = ⊥
 JudgesOver tree bytes (Err Memory) = ⊤
 JudgesOver tree bytes (Err error) = verdict_over tree bytes ≡ Err error
 
@@ -83,5 +93,16 @@ JudgesOver tree bytes (Err error) = verdict_over tree bytes ≡ Err error
 abbrev pub StartsOver : {T : Type 0} → (T → MemState) → Tree → List ℕ → Result (Sandbox T) StartError → Type 0
 StartsOver seen tree bytes (Ok s) = (plan : Plan) × (verdict_over tree bytes ≡ Ok plan)
     × IsBegunBy seen (record tree { worked = empty }) plan s
+StartsOver seen tree bytes (Err (Nodes n)) = ⊥
 StartsOver seen tree bytes (Err Memory) = ⊤
 StartsOver seen tree bytes (Err error) = verdict_over tree bytes ≡ Err error
+
+-- ---- on nodes that are given
+
+-- Bytes begin a sandbox over the tree of these nodes as over a tree that stays. Or the nodes are no tree, by the lowest
+-- number that breaks the rules; or memory ran out
+abbrev pub StartsOn : {T : Type 0} → (T → MemState) → Limits → List NodeData → List ℕ → Result (Sandbox T) StartError
+    → Type 0
+StartsOn seen limits nodes bytes (Err (Nodes n)) = IsLowestUnfit limits nodes n
+StartsOn seen limits nodes bytes (Err Memory) = ⊤
+StartsOn seen limits nodes bytes result = AreFit limits nodes × StartsOver seen (tree_of nodes limits) bytes result

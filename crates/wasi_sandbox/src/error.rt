@@ -1,11 +1,12 @@
 //! Why no sandbox is begun.
 ghost use Rattle.std.specs.Prelude.{◌≡◌};
-ghost use Rattle.wasi_sandbox.specs.Starting.{start_error};
+ghost use Rattle.wasi_sandbox.specs.Starting.{start_error, tree_start_error};
 ghost use Rattle.wasi_sandbox.specs.declared.error.StartError.TheVariants as errors;
 
 use std::alloc::AllocError;
 use thiserror::Error;
 use wasi_form::{Refusal, ScriptError};
+use wasi_tree::TreeError;
 
 /// Why no sandbox is begun.
 #[derive(Debug, Drop, Error)]
@@ -22,6 +23,9 @@ pub enum StartError {
     /// say them. Such a sandbox has the nodes and the limits of its tree.
     #[error("the script has nodes or limits of its own")]
     OwnTree,
+    /// The nodes that were given are no tree: this number breaks the rules of `MemTree::new`, and none below it does.
+    #[error("the nodes are no tree, by node {0}")]
+    Nodes(u64),
     /// Memory ran out.
     #[error("out of memory")]
     Memory,
@@ -42,6 +46,17 @@ impl From<ScriptError> for StartError {
         match error {
             ScriptError::Refused(refusal) => StartError::Refused(refusal),
             ScriptError::Memory => StartError::Memory,
+        }
+    }
+}
+
+impl From<TreeError> for StartError {
+    ghost from_gives = { λ error given. given ≡ tree_start_error error };
+
+    fn from(error: TreeError) -> Self {
+        match error {
+            TreeError::Invalid(number) => StartError::Nodes(number),
+            TreeError::Memory => StartError::Memory,
         }
     }
 }

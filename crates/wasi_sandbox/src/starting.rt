@@ -8,8 +8,9 @@ ghost use Rattle.wasi_form.specs.LimitsForm.{default_limits};
 ghost use Rattle.wasi_form.specs.Plan.{drafted, planned, planned_preopen};
 ghost use Rattle.wasi_form.specs.Within.{is_directory_data};
 ghost use Rattle.wasi_setup.specs.Start.{IsWithinOn};
-ghost use Rattle.wasi_tree.specs.NodeData.{data_of_node};
-ghost use Rattle.wasi_sandbox.specs.Starting.{has_no_guest, has_no_tree, JudgesOver, StartsBy, StartsOver};
+ghost use Rattle.wasi_host.specs.ValidTree.{AreLimits};
+ghost use Rattle.wasi_tree.specs.NodeData.{data_of_node, node_data};
+ghost use Rattle.wasi_sandbox.specs.Starting.{has_no_guest, has_no_tree, JudgesOver, StartsBy, StartsOn, StartsOver};
 
 use crate::error::StartError;
 use crate::sandbox::Sandbox;
@@ -18,9 +19,10 @@ use wasi_form::{
     DEFAULT_LIMITS, Draft, Refusal, ScriptPreopen, Session, is_session_within, read_draft,
     read_script,
 };
+use wasi_host::Limits;
 use wasi_overlay::Overlay;
 use wasi_setup::{begin, begin_over};
-use wasi_tree::{ContentView, MemTree};
+use wasi_tree::{ContentView, MemTree, NewNode};
 
 fn has_no_guest(session: &Session) -> bool
     ensures { result ≡ has_no_guest (planned [] default_limits session.now) }
@@ -109,5 +111,26 @@ pub fn start_over<'a>(
 {
     let session = session_over(alloc, base, text)?;
     let begun = begin_over(alloc, Overlay::new(alloc, base), session)?;
+    Ok(Sandbox::of_state(begun.context, begun.fuel))
+}
+
+/// A sandbox over a tree of these nodes, whose numbers are their places in the list, within these limits. It stands as
+/// `start` has one, with these nodes and limits in place of the script's: the script has no nodes, `[]`, and no limits
+/// but those of a script that doesn't say them. So a tree needs no text, and its files' bytes aren't copied.
+///
+/// Refusals, the first that holds: `Nodes` where the nodes are no tree, with the lowest number that breaks the rules of
+/// `MemTree::new`; then those of `start_over`. `Memory` if memory ran out.
+pub fn start_on(
+    alloc: Global,
+    nodes: Vec<NewNode>,
+    limits: Limits,
+    text: &[u8],
+) -> Result<Sandbox<MemTree>, StartError>
+    requires limits { AreLimits limits }
+    ensures starts { StartsOn (λ m. m) limits (map node_data nodes.items) text.now result }
+{
+    let tree = MemTree::new(alloc, nodes, limits)?;
+    let session = session_over(alloc, &tree, text)?;
+    let begun = begin_over(alloc, tree, session)?;
     Ok(Sandbox::of_state(begun.context, begun.fuel))
 }
