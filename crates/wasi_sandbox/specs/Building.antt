@@ -36,7 +36,8 @@ abbrev pub is_nameable : Option NodeData → Bool
 is_nameable None = false
 is_nameable (Some g) = not (is_dir_content g.content)
 
--- The directory of the number gets one more entry; or not, since the number is no directory's; or memory ran out. Unless it gets it, the nodes stay
+-- The directory of the number gets one more entry; or not, since the number is no directory's; or memory ran out. Unless
+-- it gets one, the nodes stay
 abbrev pub Enters : List NodeData → List NodeData → ℕ → List ℕ × ℕ → Result (Unit {0}) BuildError → Type 0
 Enters old new number entry (Ok tt) = entered old number entry ≡ Some new
 Enters old new number entry (Err NotDirectory) = (entered old number entry ≡ None) × (new ≡ old)
@@ -50,15 +51,16 @@ GetsEntry old new entry (Err NotDirectory) = (node_with entry old ≡ None) × (
 GetsEntry old new entry (Err NotNameable) = ⊥
 GetsEntry old new entry (Err Memory) = new ≡ old
 
--- A node is put, with the next number, or not since the number is no directory's; or memory ran out. Unless it is put, the nodes stay
+-- A node is put, with the next number; or not, since its parent's number is no directory's; or memory ran out. Unless it
+-- is put, the nodes stay
 abbrev pub Puts : List NodeData → List NodeData → Option (List NodeData) → Result ℕ BuildError → Type 0
 Puts old new put (Ok number) = (put ≡ Some new) × (number ≡ length old)
 Puts old new put (Err NotDirectory) = (put ≡ None) × (new ≡ old)
 Puts old new put (Err NotNameable) = ⊥
 Puts old new put (Err Memory) = new ≡ old
 
--- A node gets one more name, or not since it is no file and no link, or else since the number is no directory's; or memory ran out. Unless it gets one, the nodes
--- stay
+-- A node gets one more name; or not, since it is no file and no link, or else since the number is no directory's; or
+-- memory ran out. Unless it gets one, the nodes stay
 abbrev pub Names : List NodeData → List NodeData → ℕ → List ℕ × ℕ → Result (Unit {0}) BuildError → Type 0
 Names old new number entry (Ok tt) = (is_nameable (slice_get old entry.1) ≡ true) × (entered old number entry ≡ Some new)
 Names old new number entry (Err NotNameable) = (is_nameable (slice_get old entry.1) ≡ false) × (new ≡ old)

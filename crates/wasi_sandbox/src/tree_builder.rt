@@ -141,7 +141,7 @@ impl TreeBuilder {
         )
     }
 
-    /// Gives a file or a link one more name, below a directory.
+    /// Gives a file or a link one more name, below a directory. A node that is neither is refused first.
     pub fn add_name(
         &mut self,
         alloc: Global,
@@ -165,6 +165,7 @@ impl TreeBuilder {
         self.nodes
     }
 
+    /// Puts a node of this content below a directory, under a name, and gives its number.
     fn put(
         &mut self,
         alloc: Global,
