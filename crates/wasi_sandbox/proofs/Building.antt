@@ -8,7 +8,7 @@ use Rattle.wasi_tree.specs.declared.node.NewContent.{NewContent}
 use Rattle.wasi_tree.specs.declared.node.NewContent.TheVariants as new
 use Rattle.wasi_tree.specs.declared.node.NewEntry.{NewEntry}
 use Rattle.wasi_tree.specs.declared.node.NewNode.{NewNode}
-use Rattle.wasi_sandbox.specs.Building.{content_with, entered, node_with, put_below, Enters, GetsEntry, Puts}
+use Rattle.wasi_sandbox.specs.Building.{content_with, entered, node_with, put_below, TakesEntry, GetsEntry, PutsNode}
 use Rattle.wasi_sandbox.specs.declared.tree_builder.BuildError.{BuildError}
 use Rattle.wasi_sandbox.specs.declared.tree_builder.BuildError.TheVariants.{NotDirectory, NotNameable, Memory}
 
@@ -27,7 +27,7 @@ stays nodes k old now read same =
 -- what is done to the node of a number is done to the nodes
 pub enters : (nodes : List NewNode) (k : ℕ) (old now : NewNode) (entry : List ℕ × ℕ) (result : Result (Unit {0}) BuildError)
     → k < length nodes → old ≡ get_or nodes k old → GetsEntry (node_data old) (node_data now) entry result
-    → Enters (map node_data nodes) (map node_data (slice_set nodes k now)) k entry result
+    → TakesEntry (map node_data nodes) (map node_data (slice_set nodes k now)) k entry result
 enters nodes k old now entry (Ok tt) within read gets =
     rw (node_at nodes k old within read, gets) (ap Some (sym (map-set node_data nodes k now)))
 enters nodes k old now entry (Err NotDirectory) within read gets =
@@ -55,8 +55,8 @@ pub put_of : (old mid : List NodeData) (number : ℕ) (name : List ℕ) (content
 put_of old mid number name content is = rw is refl
 
 pub put_refused : (old now mid : List NodeData) (number : ℕ) (text name : List ℕ) (k : ℕ) (content : ContentData)
-    (error : BuildError) → old ≡ now → text ≡ name → k ≡ length now → Enters old mid number (text, k) (Err error)
-    → Puts now mid (put_below now number name content) (Err error)
+    (error : BuildError) → old ≡ now → text ≡ name → k ≡ length now → TakesEntry old mid number (text, k) (Err error)
+    → PutsNode now mid (put_below now number name content) (Err error)
 put_refused old now mid number text name k content NotDirectory same named next is =
     (rw (rw (same, named, next) at is.0) refl, is.1 ∙ same)
 put_refused old now mid number text name k content NotNameable same named next is = absurd is

@@ -8,8 +8,8 @@ use Rattle.wasi_tree.specs.NodeDataTests.{is_dir_content}
 use Rattle.wasi_sandbox.specs.declared.tree_builder.BuildError.{BuildError}
 use Rattle.wasi_sandbox.specs.declared.tree_builder.BuildError.TheVariants.{NotDirectory, NotNameable, Memory}
 
-abbrev pub nodes_code : Coded (List NodeData)
-nodes_code = coded_list node_data_code
+abbrev pub built_code : Coded (List NodeData)
+built_code = coded_list node_data_code
 
 -- a directory with one more entry, behind those that it has; None of what is no directory
 abbrev pub content_with : List ℕ × ℕ → ContentData → Option ContentData
@@ -38,11 +38,11 @@ is_nameable (Some g) = not (is_dir_content g.content)
 
 -- The directory of the number gets one more entry; or not, since the number is no directory's; or memory ran out. Unless
 -- it gets one, the nodes stay
-abbrev pub Enters : List NodeData → List NodeData → ℕ → List ℕ × ℕ → Result (Unit {0}) BuildError → Type 0
-Enters old new number entry (Ok tt) = entered old number entry ≡ Some new
-Enters old new number entry (Err NotDirectory) = (entered old number entry ≡ None) × (new ≡ old)
-Enters old new number entry (Err NotNameable) = ⊥
-Enters old new number entry (Err Memory) = new ≡ old
+abbrev pub TakesEntry : List NodeData → List NodeData → ℕ → List ℕ × ℕ → Result (Unit {0}) BuildError → Type 0
+TakesEntry old new number entry (Ok tt) = entered old number entry ≡ Some new
+TakesEntry old new number entry (Err NotDirectory) = (entered old number entry ≡ None) × (new ≡ old)
+TakesEntry old new number entry (Err NotNameable) = ⊥
+TakesEntry old new number entry (Err Memory) = new ≡ old
 
 -- the same of one node
 abbrev pub GetsEntry : NodeData → NodeData → List ℕ × ℕ → Result (Unit {0}) BuildError → Type 0
@@ -53,17 +53,17 @@ GetsEntry old new entry (Err Memory) = new ≡ old
 
 -- A node is put, with the next number; or not, since its parent's number is no directory's; or memory ran out. Unless it
 -- is put, the nodes stay
-abbrev pub Puts : List NodeData → List NodeData → Option (List NodeData) → Result ℕ BuildError → Type 0
-Puts old new put (Ok number) = (put ≡ Some new) × (number ≡ length old)
-Puts old new put (Err NotDirectory) = (put ≡ None) × (new ≡ old)
-Puts old new put (Err NotNameable) = ⊥
-Puts old new put (Err Memory) = new ≡ old
+abbrev pub PutsNode : List NodeData → List NodeData → Option (List NodeData) → Result ℕ BuildError → Type 0
+PutsNode old new put (Ok number) = (put ≡ Some new) × (number ≡ length old)
+PutsNode old new put (Err NotDirectory) = (put ≡ None) × (new ≡ old)
+PutsNode old new put (Err NotNameable) = ⊥
+PutsNode old new put (Err Memory) = new ≡ old
 
 -- A node gets one more name; or not, since it is no file and no link, or else since the number is no directory's; or
 -- memory ran out. Unless it gets one, the nodes stay
-abbrev pub Names : List NodeData → List NodeData → ℕ → List ℕ × ℕ → Result (Unit {0}) BuildError → Type 0
-Names old new number entry (Ok tt) = (is_nameable (slice_get old entry.1) ≡ true) × (entered old number entry ≡ Some new)
-Names old new number entry (Err NotNameable) = (is_nameable (slice_get old entry.1) ≡ false) × (new ≡ old)
-Names old new number entry (Err NotDirectory) =
+abbrev pub NamesNode : List NodeData → List NodeData → ℕ → List ℕ × ℕ → Result (Unit {0}) BuildError → Type 0
+NamesNode old new number entry (Ok tt) = (is_nameable (slice_get old entry.1) ≡ true) × (entered old number entry ≡ Some new)
+NamesNode old new number entry (Err NotNameable) = (is_nameable (slice_get old entry.1) ≡ false) × (new ≡ old)
+NamesNode old new number entry (Err NotDirectory) =
     (is_nameable (slice_get old entry.1) ≡ true) × (entered old number entry ≡ None) × (new ≡ old)
-Names old new number entry (Err Memory) = new ≡ old
+NamesNode old new number entry (Err Memory) = new ≡ old

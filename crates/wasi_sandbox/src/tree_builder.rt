@@ -1,7 +1,7 @@
 //! A tree's nodes, put one after another.
-ghost use Rattle.std.specs.Prelude.{◌≡◌, [], ◌∷◌, ◌++◌, IfOk, map, slice_get, vec_capacity, vec_len};
+ghost use Rattle.std.specs.Prelude.{◌≡◌, [], ◌∷◌, IfOk, map, slice_get, vec_capacity, vec_len};
 ghost use Rattle.wasi_tree.specs.NodeData.{content_data, directory, file, link, new_node_data, node_data, pair_of};
-ghost use Rattle.wasi_sandbox.specs.Building.{Enters, GetsEntry, is_nameable, Names, put_below, Puts};
+ghost use Rattle.wasi_sandbox.specs.Building.{TakesEntry, GetsEntry, is_nameable, NamesNode, put_below, PutsNode};
 ghost use Rattle.wasi_sandbox.specs.declared.tree_builder.BuildError.TheVariants as errors;
 
 use std::alloc::{AllocError, Global};
@@ -43,11 +43,11 @@ pub struct TreeBuilder {
 impl Model for TreeBuilder {
     ghost use Rattle.std.specs.Prelude.{List, map};
     ghost use Rattle.wasi_tree.specs.NodeData.{node_data, NodeData};
-    ghost use Rattle.wasi_sandbox.specs.Building.{nodes_code};
+    ghost use Rattle.wasi_sandbox.specs.Building.{built_code};
 
     ghost Value = { List NodeData };
 
-    ghost coded = { nodes_code };
+    ghost coded = { built_code };
 
     ghost view = { λ b. map node_data b.nodes.items };
 }
@@ -67,7 +67,7 @@ fn add_entry(node: &mut NewNode, entry: NewEntry) -> Result<(), BuildError>
 
 /// Puts an entry behind those of the directory of a number.
 fn enter(nodes: &mut Vec<NewNode>, parent: u64, entry: NewEntry) -> Result<(), BuildError>
-    ensures entered { Enters (map node_data nodes.old.items) (map node_data nodes.new.items) parent (pair_of entry) result }
+    ensures entered { TakesEntry (map node_data nodes.old.items) (map node_data nodes.new.items) parent (pair_of entry) result }
     ensures len { vec_len nodes.new ≡ vec_len nodes.old }
     ensures capacity { vec_capacity nodes.new ≡ vec_capacity nodes.old }
 {
@@ -100,7 +100,7 @@ impl TreeBuilder {
 
     /// Puts an empty directory below a directory, under a name, and gives its number.
     pub fn add_dir(&mut self, alloc: Global, parent: u64, name: &str) -> Result<u64, BuildError>
-        ensures put { Puts self.old self.new (put_below self.old parent name.now (directory [])) result }
+        ensures put { PutsNode self.old self.new (put_below self.old parent name.now (directory [])) result }
     {
         self.put(alloc, parent, name, NewContent::Dir(Vec::new(alloc)))
     }
@@ -113,7 +113,7 @@ impl TreeBuilder {
         name: &str,
         bytes: &[u8],
     ) -> Result<u64, BuildError>
-        ensures put { Puts self.old self.new (put_below self.old parent name.now (file bytes.now)) result }
+        ensures put { PutsNode self.old self.new (put_below self.old parent name.now (file bytes.now)) result }
     {
         self.put(
             alloc,
@@ -131,7 +131,7 @@ impl TreeBuilder {
         name: &str,
         text: &str,
     ) -> Result<u64, BuildError>
-        ensures put { Puts self.old self.new (put_below self.old parent name.now (link text.now)) result }
+        ensures put { PutsNode self.old self.new (put_below self.old parent name.now (link text.now)) result }
     {
         self.put(
             alloc,
@@ -149,7 +149,7 @@ impl TreeBuilder {
         name: &str,
         node: u64,
     ) -> Result<(), BuildError>
-        ensures named { Names self.old self.new parent (name.now, node) result }
+        ensures named { NamesNode self.old self.new parent (name.now, node) result }
     {
         if !is_nameable(&self.nodes, node) {
             return Err(BuildError::NotNameable);
@@ -173,7 +173,7 @@ impl TreeBuilder {
         name: &str,
         content: NewContent,
     ) -> Result<u64, BuildError>
-        ensures put { Puts self.old self.new (put_below self.old parent name.now (content_data content)) result }
+        ensures put { PutsNode self.old self.new (put_below self.old parent name.now (content_data content)) result }
     {
         let number = self.nodes.as_slice().len() as u64;
         let name = String::from_str(alloc, name)?;
