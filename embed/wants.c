@@ -7,7 +7,7 @@
 
 #include "zurgwenad/wasi.h"
 
-enum { MEMORY = 1024, STEPS = 9 };
+enum { MEMORY = 1024, STEPS = 10 };
 
 /// Which request from now on is refused: 1 is the next one, and 0 none.
 static unsigned refused;
@@ -48,6 +48,8 @@ static uint32_t step(wasi_sandbox *sandbox, uint8_t *memory, unsigned number, ui
         return wasi_path_symlink(sandbox, memory, MEMORY, 64, 1, 3, 72, 4);
     case 7:
         return wasi_fd_readdir(sandbox, memory, MEMORY, 3, 256, 256, 0, 24);
+    case 8:
+        return wasi_entries(sandbox, 0, report, room, &len);
     default:
         return wasi_report(sandbox, report, room, &len);
     }

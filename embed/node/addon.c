@@ -9,6 +9,7 @@
 
 #include "zurgwenad/calls.h"
 
+#define MOST_BEHIND 3                    // values that a function is given behind a sandbox
 #define MOST_REPORTED ((size_t)1 << 16)  // bytes of a report for which room is made before its length is asked for
 
 struct held;
@@ -186,20 +187,23 @@ static napi_value on_begin(napi_env env, napi_callback_info info) {
     return made;
 }
 
-// The sandbox that a function was given first, and the value behind it if there is one.
-static struct held *take_held(napi_env env, napi_callback_info info, napi_value *behind) {
-    napi_value given[2];
-    size_t count = 2;
+// The sandbox that a function was given first, and as many values behind it.
+static struct held *take_held_and(napi_env env, napi_callback_info info, napi_value *behind, size_t more) {
+    napi_value given[1 + MOST_BEHIND];
+    size_t count = 1 + more;
     void *held = NULL;
     if (napi_get_cb_info(env, info, &count, given, NULL, NULL) != napi_ok ||
         napi_get_value_external(env, given[0], &held) != napi_ok) {
         fail(env, "this is no sandbox");
         return NULL;
     }
-    if (behind) {
-        *behind = given[1];
-    }
+    memcpy(behind, given + 1, more * sizeof *behind);
     return held;
+}
+
+// The sandbox that a function was given first, and the value behind it if there is one.
+static struct held *take_held(napi_env env, napi_callback_info info, napi_value *behind) {
+    return take_held_and(env, info, behind, behind ? 1 : 0);
 }
 
 static bool add_import(napi_env env, struct held *held, uint32_t number, napi_value imports) {
@@ -350,6 +354,118 @@ static napi_value on_report(napi_env env, napi_callback_info info) {
     return status == napi_ok ? told : fail(env, "there isn't enough memory");
 }
 
+// A number that JavaScript gave as a BigInt.
+static bool take_number(napi_env env, napi_value given, uint64_t *number) {
+    bool lossless = false;
+    if (napi_get_value_bigint_uint64(env, given, number, &lossless) == napi_ok && lossless) {
+        return true;
+    }
+    fail(env, "a number of a node, an offset or a length is a BigInt");
+    return false;
+}
+
+// node(SANDBOX, NUMBER): what is told of a node, as a list of ten BigInts, or the code by which there is none. A time is
+// two of them, seconds as 64 bits and nanoseconds.
+static napi_value on_node(napi_env env, napi_callback_info info) {
+    napi_value given, told;
+    struct held *held = take_held(env, info, &given);
+    uint64_t number;
+    wasi_node_record node;
+    if (!held || !take_number(env, given, &number)) {
+        return NULL;
+    }
+    uint32_t code = wasi_node(&held->sandbox, number, &node);
+    if (code != 0) {
+        return napi_create_uint32(env, code, &told) == napi_ok ? told : NULL;
+    }
+    const uint64_t words[] = {
+        node.filetype, node.links, node.size, node.removed,
+        (uint64_t)node.atime.seconds, node.atime.nanoseconds, (uint64_t)node.mtime.seconds, node.mtime.nanoseconds,
+        (uint64_t)node.btime.seconds, node.btime.nanoseconds,
+    };
+    return list_of(env, words, sizeof words / sizeof *words);
+}
+
+// read(SANDBOX, NUMBER, FROM, BYTES): how many bytes of a node are put in front of a Buffer, as a BigInt, or the code by
+// which none are.
+static napi_value on_read(napi_env env, napi_callback_info info) {
+    napi_value given[3], told;
+    struct held *held = take_held_and(env, info, given, 3);
+    uint64_t number, from;
+    void *bytes;
+    size_t room, length = 0;
+    if (!held || !take_number(env, given[0], &number) || !take_number(env, given[1], &from)) {
+        return NULL;
+    }
+    if (napi_get_buffer_info(env, given[2], &bytes, &room) != napi_ok) {
+        return fail(env, "bytes are read into a Buffer");
+    }
+    uint32_t code = wasi_read(&held->sandbox, number, from, room > 0 ? bytes : &no_bytes, room, &length);
+    napi_status status = code == 0 ? napi_create_bigint_uint64(env, length, &told)
+                                   : napi_create_uint32(env, code, &told);
+    return status == napi_ok ? told : fail(env, "there isn't enough memory");
+}
+
+// entry(SANDBOX, DIRECTORY, NAME): the number under a name, which is a Buffer, as a BigInt, or the code by which there is
+// none.
+static napi_value on_entry(napi_env env, napi_callback_info info) {
+    napi_value given[2], told;
+    struct held *held = take_held_and(env, info, given, 2);
+    uint64_t directory, number;
+    void *name;
+    size_t length;
+    if (!held || !take_number(env, given[0], &directory)) {
+        return NULL;
+    }
+    if (napi_get_buffer_info(env, given[1], &name, &length) != napi_ok) {
+        return fail(env, "a name is a Buffer");
+    }
+    uint32_t code = wasi_entry(&held->sandbox, directory, length > 0 ? name : &no_bytes, length, &number);
+    napi_status status = code == 0 ? napi_create_bigint_uint64(env, number, &told)
+                                   : napi_create_uint32(env, code, &told);
+    return status == napi_ok ? told : fail(env, "there isn't enough memory");
+}
+
+// entries(SANDBOX, DIRECTORY): the listing of a directory as a Buffer, or the code by which there is none.
+static napi_value on_entries(napi_env env, napi_callback_info info) {
+    napi_value given, told = NULL;
+    struct held *held = take_held(env, info, &given);
+    uint64_t directory;
+    uint8_t *text = NULL;
+    size_t length = 0;
+    if (!held || !take_number(env, given, &directory)) {
+        return NULL;
+    }
+    uint32_t code = wasi_entries(&held->sandbox, directory, &no_bytes, 0, &length);
+    if (code == WASI_SHORT) {
+        text = malloc(length);
+        code = text ? wasi_entries(&held->sandbox, directory, text, length, &length) : WASI_NO_MEMORY;
+    }
+    napi_status status = code == 0 ? napi_create_buffer_copy(env, length, text ? text : &no_bytes, NULL, &told)
+                                   : napi_create_uint32(env, code, &told);
+    free(text);
+    return status == napi_ok ? told : fail(env, "there isn't enough memory");
+}
+
+// output(SANDBOX, ERROR): what the guest wrote so far to the standard error, or to the standard output, as a Buffer.
+static napi_value on_output(napi_env env, napi_callback_info info) {
+    napi_value given, told;
+    struct held *held = take_held(env, info, &given);
+    bool error;
+    uint64_t total;
+    size_t length;
+    void *bytes;
+    if (!held || napi_get_value_bool(env, given, &error) != napi_ok ||
+        wasi_output(&held->sandbox, error, 0, &no_bytes, 0, &length, &total) != 0) {
+        return NULL;
+    }
+    if (napi_create_buffer(env, total, &bytes, &told) != napi_ok) {
+        return fail(env, "there isn't enough memory");
+    }
+    wasi_output(&held->sandbox, error, 0, total > 0 ? bytes : &no_bytes, total, &length, &total);
+    return told;
+}
+
 // end(SANDBOX): its tree and all else are given back. An ended one stays.
 static napi_value on_end(napi_env env, napi_callback_info info) {
     struct held *held = take_held(env, info, NULL);
@@ -372,6 +488,9 @@ NAPI_MODULE_INIT() {
                 export_function(env, exports, "answered", on_answered) &&
                 export_function(env, exports, "quotaUsed", on_quota_used) &&
                 export_function(env, exports, "commit", on_commit) && export_function(env, exports, "kept", on_kept) &&
-                export_function(env, exports, "report", on_report) && export_function(env, exports, "end", on_end);
+                export_function(env, exports, "report", on_report) && export_function(env, exports, "node", on_node) &&
+                export_function(env, exports, "read", on_read) && export_function(env, exports, "entry", on_entry) &&
+                export_function(env, exports, "entries", on_entries) &&
+                export_function(env, exports, "output", on_output) && export_function(env, exports, "end", on_end);
     return made ? exports : fail(env, "there isn't enough memory");
 }

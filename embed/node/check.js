@@ -7,7 +7,7 @@ const fs = require("node:fs");
 const path = require("node:path");
 const test = require("node:test");
 const { Worker } = require("node:worker_threads");
-const { Sandbox, Base, SandboxError, Refused, Trap, Exit, Ended } = require("./sandbox.js");
+const { Sandbox, Base, SandboxError, Refused, Unread, Trap, Exit, Ended } = require("./sandbox.js");
 
 const PREVIEW1 = "wasi_snapshot_preview1";
 const CALLS = fs.readFileSync(path.join(__dirname, "../../tools/wasitools/calls.txt"), "utf8").match(/^\w+/gm);
@@ -151,6 +151,35 @@ test("sandboxes over a base have their own changes", () => {
   assert.strictEqual(open(begin_over(base), "new")[0], NOENT);
 });
 
+test("results are read with a base and without one", () => {
+  const nodes = [{ dir: { f: 1, way: 2 } }, { file: hex("top") }, { link: "f" }];
+  const alone = begin({ nodes });
+  for (const sandbox of [alone, begin_over(begin({ nodes }).commit())]) {
+    assert.strictEqual(open(sandbox, "new", 1)[0], 0);
+    const memory = Buffer.from(lent(sandbox, "words").buffer);
+    memory.writeUInt32LE(1024, 0);
+    memory.writeUInt32LE(5, 4);
+    assert.strictEqual(sandbox.imports.fd_write(2, 0, 1, 8), 0);
+    const epoch = { seconds: 0n, nanoseconds: 0 };
+    const told = { links: 1, removed: false, atime: epoch, mtime: epoch, btime: epoch };
+    assert.deepStrictEqual(sandbox.node(0), { ...told, filetype: 3, size: 0 });
+    assert.deepStrictEqual(sandbox.node(1), { ...told, filetype: 4, size: 3 });
+    assert.deepStrictEqual(sandbox.node(2), { ...told, filetype: 7, size: 1 });
+    assert.strictEqual(sandbox.node(4), null);
+    assert.deepStrictEqual(sandbox.entries(0), [["f", 1], ["new", 3], ["way", 2]]);
+    assert.deepStrictEqual([sandbox.entries(1), sandbox.entries(9)], [[], []]);
+    assert.deepStrictEqual(["f", "new", "gone", "."].map((name) => sandbox.entry(0, name)), [1, 3, null, null]);
+    assert.deepStrictEqual([sandbox.read(1), sandbox.read(1, 1, 1), sandbox.read(1, 3)].map(String), ["top", "o", ""]);
+    assert.deepStrictEqual([sandbox.read(2), sandbox.read(3)].map(String), ["f", ""]);
+    for (const [number, reason] of [[0, "directory"], [4, "noNode"]]) {
+      assert.throws(() => sandbox.read(number), (error) => error instanceof Unread && error.reason === reason);
+    }
+    assert.throws(() => sandbox.node(-1), TypeError);
+    assert.deepStrictEqual([sandbox.stdout(), sandbox.stderr()].map(String), ["", "words"]);
+    assert.strictEqual(sandbox.answered, 2);
+  }
+});
+
 test("scripts over a base that are refused say why", () => {
   const base = begin().commit();
   const refused = {
@@ -182,7 +211,9 @@ test("what is used after the end is told", () => {
   sandbox.end();
   sandbox.end();
   const uses = [() => sandbox.report(), () => sandbox.answered, () => sandbox.quotaUsed, () => sandbox.commit(),
-    () => sandbox.kept(), () => lent(sandbox), () => imports.fd_close(3)];
+    () => sandbox.kept(), () => sandbox.node(0), () => sandbox.read(0), () => sandbox.entry(0, "a"),
+    () => sandbox.entries(0), () => sandbox.stdout(), () => sandbox.stderr(), () => lent(sandbox),
+    () => imports.fd_close(3)];
   for (const use of uses) assert.throws(use, (error) => error instanceof Ended && error instanceof SandboxError);
 });
 

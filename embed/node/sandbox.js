@@ -15,6 +15,8 @@ const native = require("./out/wasi.node");
 const EXIT = 259;
 const EMPTY = 261;
 const ALONE = 277;
+const NO_NODE = 279;
+const DIRECTORY = 280;
 const STOPS = {
   256: ["pointer", "an address outside the guest's memory, or one that isn't aligned"],
   257: ["table", "more descriptors than the script's table has room for"],
@@ -78,6 +80,33 @@ const stop = (code, status) => {
 const told_of = (what, told) => {
   if (typeof told === "number") throw new SandboxError(`there is no ${what}: code ${told}`, told, "memory");
   return told;
+};
+
+/** A node has no bytes to read: there is none of the number, or it is a directory. */
+class Unread extends SandboxError {
+  constructor(number, code) {
+    const directory = code === DIRECTORY;
+    super(directory ? `node ${number} is a directory` : `there is no node ${number}`, code, directory ? "directory" : "noNode");
+  }
+}
+
+// A number of a node, an offset or a length, as the addon takes it.
+const counted = (number) => {
+  if (!Number.isSafeInteger(number) || number < 0) throw new TypeError("a number is a whole one, and not below 0");
+  return BigInt(number);
+};
+
+const time_of = (seconds, nanoseconds) => ({ seconds: BigInt.asIntN(64, seconds), nanoseconds: Number(nanoseconds) });
+
+// The names of a listing, as `wasi_entries` of wasi.h lays them out, each with the number of its node.
+const entries_of = (listing) => {
+  const entries = [];
+  for (let at = 0; at < listing.length;) {
+    const end = listing.indexOf(0, at + 8);
+    entries.push([listing.toString("utf8", at + 8, end), Number(listing.readBigUInt64LE(at))]);
+    at = end + 1;
+  }
+  return entries;
 };
 
 /**
@@ -177,6 +206,62 @@ class Sandbox {
     return kept === ALONE ? null : told_of("list", kept).map(Number);
   }
 
+  /**
+   * The node of a number, as the report numbers them, in the tree as it stands: `filetype` (3 of a directory, 4 of a
+   * file, 7 of a link), `links`, `size` in bytes, `removed`, and the times `atime`, `mtime` and `btime`, each with
+   * `seconds`, a BigInt, and `nanoseconds`. `null` where no node has the number. This and the methods up to `stderr` only
+   * read: no node counts as accessed, and no call is counted. They answer alike after the guest was stopped or ended.
+   */
+  node(number) {
+    this.#check();
+    const told = native.node(this.#held, counted(number));
+    if (told === NO_NODE) return null;
+    const [filetype, links, size, removed, ...times] = told;
+    const [atime, mtime, btime] = [0, 2, 4].map((place) => time_of(times[place], times[place + 1]));
+    return { filetype: Number(filetype), links: Number(links), size: Number(size), removed: removed === 1n, atime, mtime, btime };
+  }
+
+  /**
+   * The bytes of a file, or of a link's text, from an offset on, as many as there are up to a length: a Buffer, of no
+   * bytes at or past the end. Without a length all bytes from there on. Throws `Unread`.
+   */
+  read(number, from = 0, length = Infinity) {
+    this.#check();
+    const size = this.node(number)?.size ?? 0;
+    const bytes = Buffer.alloc(Math.min(length, Math.max(size - from, 0)));
+    const told = native.read(this.#held, counted(number), counted(from), bytes);
+    if (typeof told === "number") throw new Unread(number, told);
+    return bytes;
+  }
+
+  /**
+   * The number of the node that a directory holds under a name, which is no path; a link isn't followed. `null` where it
+   * holds none, and of what is no directory.
+   */
+  entry(directory, name) {
+    this.#check();
+    const told = native.entry(this.#held, counted(directory), Buffer.from(name));
+    return told === NO_NODE ? null : Number(told);
+  }
+
+  /** All names of a directory, in byte order, each a list of it and its node's number; none of what is no directory. */
+  entries(directory) {
+    this.#check();
+    return entries_of(told_of("listing", native.entries(this.#held, counted(directory))));
+  }
+
+  /** What the guest wrote so far to the standard output: a Buffer. */
+  stdout() {
+    this.#check();
+    return native.output(this.#held, false);
+  }
+
+  /** What the guest wrote so far to the standard error: a Buffer. */
+  stderr() {
+    this.#check();
+    return native.output(this.#held, true);
+  }
+
   /** Gives back the tree and all else. What is used after it throws `Ended`; a second `end` does nothing. */
   end() {
     native.end(this.#held);
@@ -187,4 +272,4 @@ class Sandbox {
   }
 }
 
-module.exports = { Sandbox, Base, SandboxError, Refused, Trap, Exit, Ended };
+module.exports = { Sandbox, Base, SandboxError, Refused, Unread, Trap, Exit, Ended };

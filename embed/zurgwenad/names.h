@@ -462,7 +462,7 @@ static inline const char *wasi_code_text(uint32_t code) {
     case 261:
         return "the sandbox is empty";
     case 262:
-        return "the report is longer than the room for it";
+        return "the report, or the listing, is longer than the room for it";
     case 263:
         return "the sandbox, or the base, isn't empty";
     case 264:
@@ -485,6 +485,10 @@ static inline const char *wasi_code_text(uint32_t code) {
         return "the sandbox stands over no base";
     case 278:
         return "no call has the number, or it wants more words than there are";
+    case 279:
+        return "no node has the number, or the directory holds none under the name";
+    case 280:
+        return "the node is a directory, which has no bytes";
     default:
         return "no answer has this number";
     }

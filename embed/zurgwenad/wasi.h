@@ -9,6 +9,7 @@
 #ifndef WASI_EMBED_H
 #define WASI_EMBED_H
 
+#include <stdbool.h>
 #include <stddef.h>
 #include <stdint.h>
 
@@ -56,7 +57,7 @@ enum {
     WASI_NO_MEMORY = 260,
     /// The sandbox is empty.
     WASI_EMPTY = 261,
-    /// The report is longer than the room for it.
+    /// The report, or the listing, is longer than the room for it.
     WASI_SHORT = 262,
     /// The sandbox, or the base, isn't empty.
     WASI_FULL = 263,
@@ -79,7 +80,11 @@ enum {
     /// The sandbox stands over no base.
     WASI_ALONE = 277,
     /// No call has the number, or it wants more words than there are.
-    WASI_NO_CALL = 278
+    WASI_NO_CALL = 278,
+    /// No node has the number, or the directory holds none under the name.
+    WASI_NO_NODE = 279,
+    /// The node is a directory, which has no bytes.
+    WASI_DIRECTORY = 280
 };
 
 /// The empty sandbox, which the library puts in the place of the one that it works on.
@@ -180,6 +185,97 @@ static inline uint32_t wasi_report(wasi_sandbox *sandbox, uint8_t *text, size_t 
         return WASI_EMPTY;
     }
     return wasi_c_report(sandbox, wasi_nothing(), text, room, len);
+}
+
+/// A point in time: seconds from the epoch on, negative before it, and nanoseconds, below 1,000,000,000.
+typedef struct {
+    int64_t seconds;
+    uint32_t nanoseconds;
+} wasi_time;
+
+/// A node of a tree, but for its bytes and its names.
+typedef struct {
+    /// How many names a file or a link has. A directory's are shown as 1.
+    uint64_t links;
+    /// How many bytes a file, or a link's text, has; 0 of a directory.
+    uint64_t size;
+    /// When it was read last, changed last, and made. No call but those that set times changes one.
+    wasi_time atime, mtime, btime;
+    /// Preview1's number of its type: 3 of a directory, 4 of a file, 7 of a link (`WASI_FILETYPE_` in names.h).
+    uint32_t filetype;
+    /// 1 of a directory that was removed, 0 of every other node.
+    uint32_t removed;
+} wasi_node_record;
+
+uint32_t wasi_c_node(wasi_sandbox *sandbox, wasi_sandbox empty, uint64_t number, wasi_node_record *node);
+
+/// The node of a number, as the report numbers them, in the sandbox's tree as it stands. 0, and the node; or
+/// WASI_NO_NODE or WASI_EMPTY, and nothing is written. This and the four functions below only read: no node counts as
+/// accessed, no call is counted, and all of the guest's stays. They answer alike with a base and without one, and after
+/// the guest was stopped or ended.
+static inline uint32_t wasi_node(wasi_sandbox *sandbox, uint64_t number, wasi_node_record *node) {
+    if (!sandbox->at) {
+        return WASI_EMPTY;
+    }
+    return wasi_c_node(sandbox, wasi_nothing(), number, node);
+}
+
+uint32_t wasi_c_read(wasi_sandbox *sandbox, wasi_sandbox empty, uint64_t number, uint64_t from, uint8_t *bytes,
+        size_t room, size_t *len);
+
+/// The bytes of a file, or of a link's text, from an offset in bytes on. 0, as many of them as there are and have room
+/// in front of the room, and how many these are: 0 at or past the end. Or WASI_NO_NODE, WASI_DIRECTORY or WASI_EMPTY,
+/// and nothing is written. The pointer isn't null, also where the room is 0.
+static inline uint32_t wasi_read(wasi_sandbox *sandbox, uint64_t number, uint64_t from, uint8_t *bytes, size_t room,
+        size_t *len) {
+    if (!sandbox->at) {
+        return WASI_EMPTY;
+    }
+    return wasi_c_read(sandbox, wasi_nothing(), number, from, bytes, room, len);
+}
+
+uint32_t wasi_c_entry(wasi_sandbox *sandbox, wasi_sandbox empty, uint64_t directory, const uint8_t *name,
+        size_t name_len, uint64_t *number);
+
+/// The number of the node that a directory holds under a name, which is UTF-8 without a 0 behind it. A path is followed
+/// name by name; `.` and `..` are no names, and a link isn't followed. 0, and the number; or WASI_NO_NODE, where it holds
+/// none or is no directory, or WASI_EMPTY, and nothing is written. The pointer isn't null, also where the length is 0.
+static inline uint32_t wasi_entry(wasi_sandbox *sandbox, uint64_t directory, const uint8_t *name, size_t name_len,
+        uint64_t *number) {
+    if (!sandbox->at) {
+        return WASI_EMPTY;
+    }
+    return wasi_c_entry(sandbox, wasi_nothing(), directory, name, name_len, number);
+}
+
+uint32_t wasi_c_entries(wasi_sandbox *sandbox, wasi_sandbox empty, uint64_t directory, uint8_t *text, size_t room,
+        size_t *len);
+
+/// The listing of a directory: all its names, in byte order. Each is its node's number in 8 bytes, little-endian and
+/// not aligned, then the name, and then a 0, which no name has. What is no directory has no names. 0, the listing in
+/// front of the room, and its length in bytes; or WASI_SHORT, and the length alone; or WASI_NO_MEMORY or WASI_EMPTY, and
+/// neither. The pointer isn't null, also where the room is 0.
+static inline uint32_t wasi_entries(wasi_sandbox *sandbox, uint64_t directory, uint8_t *text, size_t room,
+        size_t *len) {
+    if (!sandbox->at) {
+        return WASI_EMPTY;
+    }
+    return wasi_c_entries(sandbox, wasi_nothing(), directory, text, room, len);
+}
+
+void wasi_c_output(wasi_sandbox *sandbox, wasi_sandbox empty, bool error, uint64_t from, uint8_t *bytes, size_t room,
+        size_t *len, uint64_t *total);
+
+/// What the guest wrote so far to the standard error, or to the standard output, from an offset in bytes on. 0, as many
+/// bytes as there are and have room in front of the room, how many these are, 0 at or past the end, and how many were
+/// written in all; or WASI_EMPTY, and none of these. The pointer isn't null, also where the room is 0.
+static inline uint32_t wasi_output(wasi_sandbox *sandbox, bool error, uint64_t from, uint8_t *bytes, size_t room,
+        size_t *len, uint64_t *total) {
+    if (!sandbox->at) {
+        return WASI_EMPTY;
+    }
+    wasi_c_output(sandbox, wasi_nothing(), error, from, bytes, room, len, total);
+    return 0;
 }
 
 void wasi_c_end(wasi_sandbox *sandbox, wasi_sandbox empty);

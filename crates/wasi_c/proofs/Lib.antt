@@ -1,3 +1,4 @@
 mod AsBox
 mod Kept
+mod Reading
 mod Words

@@ -52,6 +52,12 @@ pub const ALONE: u32 = 277;
 /// No call has the number, or there are fewer words than the call of the number wants.
 pub const NO_CALL: u32 = 278;
 
+/// No node has the number, or a directory holds none under the name.
+pub const NO_NODE: u32 = 279;
+
+/// The node is a directory, which has no bytes.
+pub const DIRECTORY: u32 = 280;
+
 /// The number of a call's answer.
 pub fn code_of(outcome: Result<Value, P1Error>) -> u32
     ensures { result ≡ code_of outcome }

@@ -13,6 +13,8 @@ mod calls;
 mod codes;
 mod handle;
 mod life;
+mod results;
 
 pub use base::BaseHandle;
 pub use handle::SandboxHandle;
+pub use results::{NodeRecord, TimeRecord};

@@ -3,7 +3,7 @@ use Rattle.std.proofs.Common.{◌≡◌, ◌∙◌, ◌<◌, ◌+◌, ◌++◌, 
 use Rattle.std.proofs.lemmas.List.{map_push, take_more}
 use Rattle.std.specs.FinMap as maps
 use Rattle.wasi_host.specs.Answer.{metadata_of}
-use Rattle.wasi_host.specs.Tree.{Tree, Node, node_at, next_of, stray, Content, File, Directory, Link, bytes_of, text_of, is_directory, is_file, names_of}
+use Rattle.wasi_host.specs.Tree.{Tree, Node, node_at, next_of, stray, Content, File, Directory, Link, bytes_of, text_of, is_directory, is_file, links_of, names_of}
 use Rattle.wasi_tree.specs.NodeData.{file, directory, link, data_of_content}
 
 pub data_of_directory : (c : Content) (entries : List (List ℕ × ℕ)) → is_directory c ≡ true
@@ -22,6 +22,11 @@ pub data_of_link : (c : Content) (text : List ℕ) → is_directory c ≡ false 
 data_of_link (File bytes links) text no_directory no_file same = absurd (cc)
 data_of_link (Directory names gone) text no_directory no_file same = absurd (cc)
 data_of_link (Link old links) text no_directory no_file same = ap link same
+
+-- metadata tell how many names a node has
+pub links_at : (t : Tree) (n : ℕ) → (metadata_of t n).links ≡ links_of (node_at t n).content
+unfolding metadata_of
+links_at t n = refl
 
 -- metadata tell a node's times
 pub times_of : (t : Tree) (n : ℕ) → ((metadata_of t n).atime ≡ (node_at t n).atime)

@@ -10,6 +10,7 @@ ghost use Rattle.std.specs.FinSet.{contains, empty, from_list};
 ghost use Rattle.wasi_paths.specs.Name.{name_bytes};
 ghost use Rattle.wasi_host.specs.Tree.{next_of, node_at, child, names_of, is_directory};
 ghost use Rattle.wasi_tree.specs.NodeData.{node_data, content_data, data_of_node, data_of_content, pair_of};
+ghost use Rattle.wasi_tree.specs.Viewed.{Views, viewed_content};
 
 use crate::over_nodes::OverNodes;
 use crate::over_parents::OverParents;
@@ -17,7 +18,9 @@ use std::alloc::{AllocError, Global};
 use std::marker::Model;
 use wasi_host::{Bits, DirEntry, FileType, Limits, Metadata, SystemTime};
 use wasi_paths::Name;
-use wasi_tree::{Inode, MemStore, NameLookup, NewContent, NewEntry, NewNode, NodeStore};
+use wasi_tree::{
+    ContentView, Inode, MemStore, NameLookup, NewContent, NewEntry, NewNode, NodeStore, NodeView,
+};
 use wasi_tree_index::{OverNameIndex, SearchHint};
 
 /// The nodes of a tree that stays, with what changed of them since: the nodes that were accessed, those that were made,
@@ -98,6 +101,55 @@ impl<'a> OverStore<'a> {
         self.names.find(near, directory, name.as_str())
     }
 
+    /// The node of a number, lent without a copy and without a directory's names.
+    pub fn node(&self, n: u64) -> NodeView<'_>
+        requires { n < next_of self.now.tree }
+        ensures { Views (node_at self.now.tree n) result }
+    {
+        let Metadata {
+            atime,
+            mtime,
+            btime,
+            links,
+            ..
+        } = self.metadata(n);
+        NodeView {
+            content: self.content(n),
+            bits: self.bits(n),
+            atime,
+            mtime,
+            btime,
+            links,
+            gone: self.is_gone(n),
+        }
+    }
+
+    /// What a node is, lent without a directory's names.
+    fn content(&self, n: u64) -> ContentView<'_>
+        requires { n < next_of self.now.tree }
+        ensures { viewed_content (maps.entries (names_of (node_at self.now.tree n).content)) result
+            ≡ data_of_content (node_at self.now.tree n).content }
+    {
+        if self.is_directory(n) {
+            return ContentView::Dir;
+        }
+        if self.is_file(n) {
+            return ContentView::File(self.bytes(n));
+        }
+        ContentView::Link(self.text(n))
+    }
+
+    /// The node that a directory holds under a text.
+    pub fn entry(&self, directory: u64, name: &str) -> Option<u64>
+        ensures { result ≡ maps.get (names_of (node_at self.now.tree directory).content) name.now }
+    {
+        if !self.is_directory(directory) {
+            return None;
+        }
+        let mut near = self.near;
+        self.names.find(&mut near, directory, name)
+    }
+
     /// The node of a number as a list gives it, in memory of its own.
     pub fn new_node(&self, alloc: Global, n: u64) -> Result<NewNode, AllocError>
         requires { n < next_of self.now.tree }
@@ -130,6 +182,17 @@ impl<'a> OverStore<'a> {
             return Ok(NewContent::File(Vec::from_slice(alloc, self.bytes(n))?));
         }
         Ok(NewContent::Link(String::from_str(alloc, self.text(n))?))
+    }
+
+    /// The entries of a directory, in byte order. What is no directory has none.
+    pub fn entries(&self, alloc: Global, directory: u64) -> Result<Vec<NewEntry>, AllocError>
+        ensures { IfOk result (λ entries. map pair_of entries.items
+            ≡ maps.entries (names_of (node_at self.now.tree directory).content)) }
+    {
+        if !self.is_directory(directory) {
+            return Ok(Vec::new(alloc));
+        }
+        self.new_entries(alloc, directory)
     }
 
     /// The entries of a directory, in byte order.

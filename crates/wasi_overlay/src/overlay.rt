@@ -1,13 +1,15 @@
 //! A tree of files over one that stays, as a host.
-ghost use Rattle.std.specs.Prelude.{◌≡◌, ◌<◌, ◌↔◌, ℕ, true, false, Err, IfOk, OnErr, All, map};
+ghost use Rattle.std.specs.Prelude.{◌≡◌, ◌<◌, ◌≤◌, ◌↔◌, ℕ, true, false, None, Err, IfSome, IfOk, OnErr, All, map};
+ghost use Rattle.std.specs.FinMap as maps;
 ghost use Rattle.std.specs.FinSet.{contains, insert, from_list};
 ghost use Rattle.std.specs.List.Sorted.{IsStrictlySortedBy};
 ghost use Rattle.std.specs.Ordering.{nat_cmp};
-ghost use Rattle.wasi_host.specs.Tree.{next_of, node_at, is_directory};
+ghost use Rattle.wasi_host.specs.Tree.{next_of, node_at, names_of, is_directory};
 ghost use Rattle.wasi_host.specs.HostLaws.{never_fails};
 ghost use Rattle.wasi_host.specs.declared.injected_fault.InjectedFault.TheVariants.{Passes};
 ghost use Rattle.wasi_overlay.specs.Overlay.{IsFreshOn};
-ghost use Rattle.wasi_tree.specs.NodeData.{node_data, data_of_node};
+ghost use Rattle.wasi_tree.specs.NodeData.{node_data, data_of_node, pair_of};
+ghost use Rattle.wasi_tree.specs.Viewed.{Views};
 ghost use Rattle.wasi_tree.specs.MemState.{live_of, held_in, model_of};
 
 use crate::over_store::OverStore;
@@ -18,7 +20,7 @@ use wasi_host::{
     SyncFlags, SystemTime,
 };
 use wasi_paths::Name;
-use wasi_tree::{HandleError, MemTree, NewNode, NodeStore, TreeHost};
+use wasi_tree::{HandleError, MemTree, NewEntry, NewNode, NodeStore, NodeView, TreeHost};
 
 /// A tree of files over a tree in memory that stays, as a host. Guests see and change the tree that both together are.
 /// The tree below is never changed, so dropping the overlay drops the changes; `commit` makes a tree of them. It never
@@ -74,6 +76,35 @@ impl<'a> Overlay<'a> {
         ensures { result ≡ next_of self.now.tree }
     {
         self.host.store().count()
+    }
+
+    /// The node of a number as it is, lent without a copy, as that of a `MemTree`. A directory's names are asked for by
+    /// `entry` and `entries`. None where there is no such node.
+    pub fn node(&self, number: u64) -> Option<NodeView<'_>>
+        ensures none { (result ≡ None) ↔ (next_of self.now.tree ≤ number) }
+        ensures node { IfSome result (Views (node_at self.now.tree number)) }
+    {
+        if number >= self.next() {
+            return None;
+        }
+        Some(self.host.store().node(number))
+    }
+
+    /// The node that a directory holds under a text, be the text a plain name or not. None where it holds none, and of
+    /// what is no directory.
+    pub fn entry(&self, dir: u64, name: &str) -> Option<u64>
+        ensures entry { result ≡ maps.get (names_of (node_at self.now.tree dir).content) name.now }
+    {
+        self.host.store().entry(dir, name)
+    }
+
+    /// The entries of a directory in byte order, in memory of their own. What is no directory has none. The only `Err`
+    /// is want of memory.
+    pub fn entries(&self, alloc: Global, dir: u64) -> Result<Vec<NewEntry>, AllocError>
+        ensures entries { IfOk result (λ entries. map pair_of entries.items
+            ≡ maps.entries (names_of (node_at self.now.tree dir).content)) }
+    {
+        self.host.store().entries(alloc, dir)
     }
 
     /// The node of a number, in memory of its own. The entries of a directory stand in byte order. The only `Err` is

@@ -1,5 +1,9 @@
 //! A sandbox of either kind.
-ghost use Rattle.std.specs.Prelude.{◌≡◌, IfOk};
+ghost use Rattle.std.specs.Prelude.{◌≡◌, ◌≤◌, ◌↔◌, None, IfSome, IfOk, map};
+ghost use Rattle.std.specs.FinMap as maps;
+ghost use Rattle.wasi_host.specs.Tree.{next_of, node_at, names_of};
+ghost use Rattle.wasi_tree.specs.NodeData.{pair_of};
+ghost use Rattle.wasi_tree.specs.Viewed.{Views};
 ghost use Rattle.wasi_sandbox.specs.Any.{one_of, Becomes, Keeps};
 ghost use Rattle.wasi_sandbox.specs.Calling.{CalledInto};
 ghost use Rattle.wasi_sandbox.specs.Telling.{Tells};
@@ -8,11 +12,12 @@ ghost use Rattle.wasi_p1_types.specs.Quotas.{IsWithinQuota};
 
 use crate::result_layout::ResultLayout;
 use crate::sandbox::Sandbox;
+use crate::tree::SandboxTree;
 use std::alloc::{AllocError, Global};
 use wasi_guest::QuotaUsed;
 use wasi_overlay::Overlay;
 use wasi_p1::{Call, P1Error, Value};
-use wasi_tree::MemTree;
+use wasi_tree::{MemTree, NewEntry, NodeView};
 
 /// A sandbox that stands alone, over a tree of its own, or over a tree that stays for as long as the program runs: for
 /// a program that holds both kinds alike.
@@ -89,6 +94,58 @@ impl AnySandbox {
         match self {
             AnySandbox::Alone(_) => Ok(None),
             AnySandbox::Over(sandbox) => Ok(Some(sandbox.kept(alloc)?)),
+        }
+    }
+
+    /// The node of a number as it stands, lent without a copy, as `SandboxTree::node`.
+    pub fn node(&self, number: u64) -> Option<NodeView<'_>>
+        ensures none { (result ≡ None) ↔ (next_of (one_of self.now).context.host.inner.tree ≤ number) }
+        ensures node { IfSome result (Views (node_at (one_of self.now).context.host.inner.tree number)) }
+    {
+        match self {
+            AnySandbox::Alone(sandbox) => sandbox.tree().node(number),
+            AnySandbox::Over(sandbox) => sandbox.tree().node(number),
+        }
+    }
+
+    /// The node that a directory holds under a text, as `SandboxTree::entry`.
+    pub fn entry(&self, dir: u64, name: &str) -> Option<u64>
+        ensures entry { result ≡ maps.get (names_of (node_at (one_of self.now).context.host.inner.tree dir).content) name.now }
+    {
+        match self {
+            AnySandbox::Alone(sandbox) => sandbox.tree().entry(dir, name),
+            AnySandbox::Over(sandbox) => sandbox.tree().entry(dir, name),
+        }
+    }
+
+    /// The entries of a directory in byte order, as `SandboxTree::entries`. The only `Err` is out of memory.
+    pub fn entries(&self, alloc: Global, dir: u64) -> Result<Vec<NewEntry>, AllocError>
+        ensures entries { IfOk result (λ entries. map pair_of entries.items
+            ≡ maps.entries (names_of (node_at (one_of self.now).context.host.inner.tree dir).content)) }
+    {
+        match self {
+            AnySandbox::Alone(sandbox) => sandbox.tree().entries(alloc, dir),
+            AnySandbox::Over(sandbox) => sandbox.tree().entries(alloc, dir),
+        }
+    }
+
+    /// What the guest wrote to the standard output so far.
+    pub fn stdout(&self) -> &[u8]
+        ensures bytes { result.now ≡ (one_of self.now).context.holdings.stdout }
+    {
+        match self {
+            AnySandbox::Alone(sandbox) => sandbox.context.stdout(),
+            AnySandbox::Over(sandbox) => sandbox.context.stdout(),
+        }
+    }
+
+    /// What the guest wrote to the standard error so far.
+    pub fn stderr(&self) -> &[u8]
+        ensures bytes { result.now ≡ (one_of self.now).context.holdings.stderr }
+    {
+        match self {
+            AnySandbox::Alone(sandbox) => sandbox.context.stderr(),
+            AnySandbox::Over(sandbox) => sandbox.context.stderr(),
         }
     }
 }

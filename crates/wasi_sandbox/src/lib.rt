@@ -30,4 +30,4 @@ pub use wasi_guest::QuotaUsed;
 pub use wasi_host::Limits;
 pub use wasi_overlay::Overlay;
 pub use wasi_p1::{Call, Errno, P1Error, TrapKind, Value};
-pub use wasi_tree::{MemTree, NewContent, NewEntry, NewNode};
+pub use wasi_tree::{ContentView, MemTree, NewContent, NewEntry, NewNode, NodeView};

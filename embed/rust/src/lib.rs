@@ -20,6 +20,7 @@ fn nothing() -> Raw {
 
 const SHORT: u32 = 262;
 const ALONE: u32 = 277;
+const DIRECTORY: u32 = 280;
 
 /// Asks for what a function writes in front of some room, and with as much room as it needs where that was too little.
 fn with_room<T: Clone + Default>(
@@ -140,6 +141,63 @@ pub struct QuotaUsed {
     pub bytes: u64,
 }
 
+/// A point in time: seconds from the epoch on, negative before it, and nanoseconds, below 1,000,000,000.
+#[derive(Clone, Copy, Debug, Default, PartialEq, Eq)]
+#[repr(C)]
+pub struct Time {
+    pub seconds: i64,
+    pub nanoseconds: u32,
+}
+
+/// A node of a tree, but for its bytes and its names.
+#[derive(Clone, Copy, Debug, Default, PartialEq, Eq)]
+#[repr(C)]
+pub struct Node {
+    /// How many names a file or a link has. A directory's are shown as 1.
+    pub links: u64,
+    /// How many bytes a file, or a link's text, has; 0 of a directory.
+    pub size: u64,
+    pub atime: Time,
+    pub mtime: Time,
+    pub btime: Time,
+    /// Preview1's number of its type: 3 of a directory, 4 of a file, 7 of a link.
+    pub filetype: u32,
+    /// 1 of a directory that was removed, 0 of every other node.
+    pub removed: u32,
+}
+
+/// Why a node's bytes can't be read.
+#[derive(Clone, Copy, Debug, PartialEq, Eq)]
+pub enum Unread {
+    /// No node has the number.
+    NoNode,
+    /// It is a directory.
+    Directory,
+}
+
+impl fmt::Display for Unread {
+    fn fmt(&self, out: &mut fmt::Formatter<'_>) -> fmt::Result {
+        match self {
+            Unread::NoNode => write!(out, "no node has the number"),
+            Unread::Directory => write!(out, "the node is a directory"),
+        }
+    }
+}
+
+impl std::error::Error for Unread {}
+
+/// The names of a listing, as `wasi_entries` of wasi.h lays them out, each with the number of its node.
+fn entries_of(listing: &[u8]) -> Vec<(String, u64)> {
+    let (mut entries, mut left) = (Vec::new(), listing);
+    while let Some((number, behind)) = left.split_first_chunk::<8>() {
+        let len = behind.iter().position(|&byte| byte == 0).unwrap_or(behind.len());
+        let name = String::from_utf8_lossy(&behind[..len]).into_owned();
+        entries.push((name, u64::from_le_bytes(*number)));
+        left = behind.get(len + 1..).unwrap_or(&[]);
+    }
+    entries
+}
+
 /// A sandbox: a tree, the descriptors of one guest, and what it is handed in. It stays on its thread:
 ///
 /// ```compile_fail
@@ -181,6 +239,42 @@ extern "C" {
     fn wasi_c_answered(sandbox: *mut Raw, empty: Raw) -> u64;
     fn wasi_c_quota_used(sandbox: *mut Raw, empty: Raw, nodes: *mut u64, bytes: *mut u64);
     fn wasi_c_report(sandbox: *mut Raw, empty: Raw, text: *mut u8, room: usize, len: *mut usize) -> u32;
+    fn wasi_c_node(sandbox: *mut Raw, empty: Raw, number: u64, node: *mut Node) -> u32;
+    fn wasi_c_read(
+        sandbox: *mut Raw,
+        empty: Raw,
+        number: u64,
+        from: u64,
+        bytes: *mut u8,
+        room: usize,
+        len: *mut usize,
+    ) -> u32;
+    fn wasi_c_entry(
+        sandbox: *mut Raw,
+        empty: Raw,
+        directory: u64,
+        name: *const u8,
+        name_len: usize,
+        number: *mut u64,
+    ) -> u32;
+    fn wasi_c_entries(
+        sandbox: *mut Raw,
+        empty: Raw,
+        directory: u64,
+        text: *mut u8,
+        room: usize,
+        len: *mut usize,
+    ) -> u32;
+    fn wasi_c_output(
+        sandbox: *mut Raw,
+        empty: Raw,
+        error: bool,
+        from: u64,
+        bytes: *mut u8,
+        room: usize,
+        len: *mut usize,
+        total: *mut u64,
+    );
     fn wasi_c_end(sandbox: *mut Raw, empty: Raw);
     fn wasi_c_call(
         sandbox: *mut Raw,
@@ -274,6 +368,82 @@ impl Sandbox {
         });
         text.map(|text| String::from_utf8_lossy(&text).into_owned())
             .map_err(Stop::of)
+    }
+
+    /// The node of a number, as the report numbers them, in the tree as it stands; `None` where no node has the number.
+    /// This and the functions up to `stderr` only read: no node counts as accessed, and no call is counted. They answer
+    /// alike after the guest was stopped or ended.
+    pub fn node(&mut self, number: u64) -> Option<Node> {
+        let mut node = Node::default();
+        // SAFETY: the sandbox isn't empty; the node is borrowed for the call.
+        let code = unsafe { wasi_c_node(&mut self.raw, nothing(), number, &mut node) };
+        (code == 0).then_some(node)
+    }
+
+    /// Copies the bytes of a file, or of a link's text, from an offset on to the front of `bytes`, as many as there are
+    /// and have room: how many these are, 0 at or past the end.
+    pub fn read(&mut self, number: u64, from: u64, bytes: &mut [u8]) -> Result<usize, Unread> {
+        let (at, room, mut len) = (bytes.as_mut_ptr(), bytes.len(), 0);
+        // SAFETY: the sandbox isn't empty; the bytes and the length are borrowed for the call, and don't overlap.
+        match unsafe { wasi_c_read(&mut self.raw, nothing(), number, from, at, room, &mut len) } {
+            0 => Ok(len),
+            DIRECTORY => Err(Unread::Directory),
+            _ => Err(Unread::NoNode),
+        }
+    }
+
+    /// The number of the node that a directory holds under a name, which is no path; a link isn't followed. `None` where
+    /// it holds none, and of what is no directory.
+    pub fn entry(&mut self, directory: u64, name: &str) -> Option<u64> {
+        let mut number = 0;
+        // SAFETY: the sandbox isn't empty; the name and the number are borrowed for the call.
+        let code = unsafe {
+            wasi_c_entry(
+                &mut self.raw,
+                nothing(),
+                directory,
+                name.as_ptr(),
+                name.len(),
+                &mut number,
+            )
+        };
+        (code == 0).then_some(number)
+    }
+
+    /// All names of a directory, in byte order, each with the number of its node; none of what is no directory.
+    /// `Stop::Memory` where memory was wanted.
+    pub fn entries(&mut self, directory: u64) -> Result<Vec<(String, u64)>, Stop> {
+        // SAFETY: the sandbox isn't empty; the room and the length are borrowed for the call, and don't overlap.
+        let listing = with_room(1 << 12, |text, room, len| unsafe {
+            wasi_c_entries(&mut self.raw, nothing(), directory, text, room, len)
+        });
+        listing.map(|listing| entries_of(&listing)).map_err(Stop::of)
+    }
+
+    /// What the guest wrote so far to the standard output.
+    pub fn stdout(&mut self) -> Vec<u8> {
+        self.output(false)
+    }
+
+    /// What the guest wrote so far to the standard error.
+    pub fn stderr(&mut self) -> Vec<u8> {
+        self.output(true)
+    }
+
+    fn output(&mut self, error: bool) -> Vec<u8> {
+        let mut written = Vec::new();
+        let total = self.output_part(error, &mut written);
+        written.resize(total as usize, 0);
+        self.output_part(error, &mut written);
+        written
+    }
+
+    /// Copies an output to the front of some bytes, as much as has room: how many bytes it has in all.
+    fn output_part(&mut self, error: bool, bytes: &mut [u8]) -> u64 {
+        let (at, room, mut len, mut total) = (bytes.as_mut_ptr(), bytes.len(), 0, 0);
+        // SAFETY: the sandbox isn't empty; what is written to is borrowed for the call, and doesn't overlap.
+        unsafe { wasi_c_output(&mut self.raw, nothing(), error, 0, at, room, &mut len, &mut total) };
+        total
     }
 
     /// The call of a number: an error number of preview1, 0 where there is none; or how the guest is stopped, which is

@@ -1,6 +1,6 @@
 //! `cargo test --offline`
 
-use wasi_embed::{Base, QuotaUsed, Refused, Sandbox, Stop};
+use wasi_embed::{Base, Node, QuotaUsed, Refused, Sandbox, Stop, Time, Unread};
 
 const SCRIPT: &str = r#"{"nodes": [{"dir": {"f": 1}}, {"file": "746f70"}],
     "preopens": [{"node": 0, "name": "/", "perms": "rw"}], "calls": [], "table": 5, "random": "5a"}"#;
@@ -103,6 +103,71 @@ fn sandboxes_over_a_base() {
     drop(other);
     assert_eq!((find(next, b"new"), find(next, b"f")), (Ok(0), Ok(0)));
     assert_eq!((find(base, b"new"), find(base, b"f")), (Ok(NOENT), Ok(0)));
+}
+
+// What is read of a sandbox whose tree has a file `f`, in which a guest makes a directory and writes.
+fn read_of(sandbox: &mut Sandbox) {
+    let mut memory = [0; 128];
+    memory[64..67].copy_from_slice(b"new");
+    assert_eq!(sandbox.path_create_directory(&mut memory, 3, 64, 3), Ok(0));
+    memory[80] = 64;
+    memory[84] = 3;
+    assert_eq!(sandbox.fd_write(&mut memory, 1, 80, 1, 16), Ok(0));
+    let made = sandbox.entry(0, "new").unwrap();
+    assert_eq!(made, 2);
+    assert_eq!(
+        sandbox.entries(0),
+        Ok(vec![("f".to_string(), 1), ("new".to_string(), made)])
+    );
+    assert_eq!(sandbox.entries(made), Ok(vec![]));
+    assert_eq!(sandbox.entries(1), Ok(vec![]));
+    let file = sandbox.node(1).unwrap();
+    assert_eq!(
+        (file.filetype, file.links, file.size, file.mtime),
+        (4, 1, 3, Time::default())
+    );
+    assert_eq!(
+        sandbox.node(made),
+        Some(Node {
+            links: 1,
+            filetype: 3,
+            ..Node::default()
+        })
+    );
+    assert_eq!(sandbox.node(3), None);
+    let mut bytes = [b'?'; 4];
+    assert_eq!(sandbox.read(1, 0, &mut bytes), Ok(3));
+    assert_eq!(&bytes, b"top?");
+    assert_eq!(sandbox.read(1, 1, &mut bytes[..1]), Ok(1));
+    assert_eq!(&bytes, b"oop?");
+    assert_eq!(sandbox.read(1, u64::MAX, &mut bytes), Ok(0));
+    assert_eq!(sandbox.read(made, 0, &mut bytes), Err(Unread::Directory));
+    assert_eq!(sandbox.read(3, 0, &mut bytes), Err(Unread::NoNode));
+    assert_eq!(
+        (sandbox.entry(0, "gone"), sandbox.entry(1, "f"), sandbox.entry(9, "f")),
+        (None, None, None)
+    );
+    assert_eq!((sandbox.stdout(), sandbox.stderr()), (b"new".to_vec(), vec![]));
+    assert_eq!(sandbox.answered(), 2);
+}
+
+#[test]
+fn results_are_read() {
+    let mut alone = Sandbox::start(SCRIPT).unwrap();
+    let base = alone.commit().unwrap();
+    read_of(&mut alone);
+    read_of(&mut base.start(SESSION).unwrap());
+}
+
+#[test]
+fn a_listing_longer_than_the_first_room() {
+    let mut sandbox = Sandbox::start(SCRIPT).unwrap();
+    for n in 100..999 {
+        let mut memory = n.to_string().into_bytes();
+        assert_eq!(sandbox.path_create_directory(&mut memory, 3, 0, 3), Ok(0));
+    }
+    let entries = sandbox.entries(0).unwrap();
+    assert_eq!((entries.len(), &entries[898]), (900, &("998".to_string(), 900)));
 }
 
 #[test]

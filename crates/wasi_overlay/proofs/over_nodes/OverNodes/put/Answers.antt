@@ -1,4 +1,4 @@
-use Rattle.std.proofs.Common.{◌∙◌, true, ap, slice_index_or, slice_set, sym}
+use Rattle.std.proofs.Common.{◌∙◌, ap, slice_index_or, slice_set, sym}
 use Rattle.wasi_host.specs.Step.{with_piece}
 use Rattle.wasi_host.specs.Tree.{stray}
 use Rattle.wasi_overlay.specs.OverNodes.{over_state}
