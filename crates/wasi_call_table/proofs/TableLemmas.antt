@@ -22,7 +22,7 @@ few_kinds now None number is = tt
 few_kinds now (Some kinds) number is =
     leb-true _ _ (passes (λ kinds. nat_le (length kinds) 8) (map (λ row. kinds_of row.1) call_rows) number (now kinds) refl (sym is))
 
--- a number of 46 or more is no call's
-pub no_call : (number : ℕ) (words : List ℕ) → 46 ≤ number → None ≡ call_of_words number words
+-- a number past the table is no call's
+pub no_call : (number : ℕ) (words : List ℕ) → length call_rows ≤ number → None ≡ call_of_words number words
 unfolding call_of_words
 no_call number words past = rw (slice_get_past call_rows number past) refl
